@@ -7,6 +7,7 @@ check. What `rt ci` did not leave, or left of older sources, `rt run` and `rt li
 
 import os
 import subprocess
+import sys
 
 ROOT = os.path.dirname(os.path.dirname(os.path.abspath(__file__)))
 
@@ -78,15 +79,21 @@ def below(name):
 
 
 def sources(name):
-    """The files that a check of the crate reads."""
+    """What a check of the crate reads: files and their folders, which change where a file goes."""
     places = [os.walk(f"{folder_of(name)}/{part}") for part in ("src", "specs", "proofs")]
-    return [f"{at}/{file}" for place in places for at, _, files in place for file in files]
+    return [it for place in places for at, _, files in place for it in [at, *(f"{at}/{file}" for file in files)]]
+
+
+def changed(path):
+    """When a file or a folder was changed, also where it was given an older time."""
+    found = os.stat(path)
+    return max(found.st_mtime, found.st_ctime)
 
 
 def is_newer(path, names):
     """Whether a file or a folder stands there that was made after the last change of these crates."""
-    files = [file for name in names for file in sources(name)]
-    return os.path.exists(path) and os.path.getmtime(path) >= max(map(os.path.getmtime, files))
+    read = [f"{ROOT}/crates.txt", *(it for name in names for it in sources(name))]
+    return os.path.exists(path) and os.path.getmtime(path) >= max(map(changed, read))
 
 
 def library_of(name):
@@ -109,7 +116,8 @@ def run(words, folder):
 
 
 def ran(words, name, path):
-    """Runs a command of rt in the folder of the crate, which is to make the file at this path anew."""
+    """Runs a command of rt in the folder of the crate, which is to make the file at this path anew. It may take long."""
+    print(f"{name}: {' '.join(words)}, for rt ci left nothing of the sources as they are", file=sys.stderr, flush=True)
     if os.path.exists(path):
         os.remove(path)
     result = run(words, folder_of(name))

@@ -1,5 +1,6 @@
-"""Runs a program on a case of programs/, in a folder of its own and not as root. Python 3.8 or later."""
+"""Runs a program on a case of programs/, in a folder of its own. Python 3.8 or later."""
 
+import collections
 import errno
 import os
 import resource
@@ -70,13 +71,13 @@ def marks():
 
 
 def files_now(before):
-    """Of each file its permissions, whether it is the one that it was before, and its text."""
-    now = marks()
-    return {it: (oct(os.lstat(it).st_mode), now.get(it) == before.get(it), text_at(it)) for it in paths()}
+    """Of each file its permissions and its owner, whether it is the one that it was before, and its text."""
+    now, known = marks(), {path: os.lstat(path) for path in paths()}
+    return {path: (f"{it.st_mode:o} of {it.st_uid}", now.get(path) == before.get(path), text_at(path)) for path, it in known.items()}
 
 
 def after(case, files):
-    """What the files are to become: new ones have the permissions of the old, and all others are as they were."""
+    """What the files are to become: new ones are the old one's owner's, with its permissions. All others are as they were."""
     return {**files, **{name: (files[name][0], False, text) for name, text in case["new"].items()}}
 
 
@@ -98,6 +99,8 @@ def opened(what, name):
         return os.open("/dev/full", os.O_WRONLY)
     if what == "folder":
         return os.open(".", os.O_RDONLY)
+    if what != "closed":
+        raise ValueError(f"{name} is neither a text nor one of the words for none: {what}")
     return subprocess.DEVNULL if name == "stdin" else end_of_pipe()
 
 
@@ -107,7 +110,7 @@ def begin(case):
     if case["room"] is not None:
         signal.signal(signal.SIGXFSZ, signal.SIG_IGN)
         resource.setrlimit(resource.RLIMIT_FSIZE, (case["room"], case["room"]))
-    if os.geteuid() == 0:
+    if os.geteuid() == 0 and case["as"] != "root":
         os.setgroups([])
         os.setgid(NOBODY)
         os.setuid(NOBODY)
@@ -151,9 +154,12 @@ def run_here(case, tools, log, failing):
     return {"status": status, **written}
 
 
+# What came of a run: its outcome, the files before it, and the calls that were written down.
+Ran = collections.namedtuple("Ran", "outcome files calls")
+
+
 def run(case, tools, failing=0):
-    """What comes of a case, the files before it, and the calls that were written down. The program stands in this folder of
-    tools, and the call of this number fails."""
+    """Runs a case. The program stands in this folder of tools, and the call of this number fails."""
     with tempfile.TemporaryDirectory() as room:
         log = f"{room}/log"
         open(log, "w").close()
@@ -165,8 +171,7 @@ def run(case, tools, failing=0):
         give_away()
         before = marks()
         files = files_now(before)
-        outcome = run_here(case, tools, log, failing)
-        outcome["files"] = files_now(before)
+        outcome = {**run_here(case, tools, log, failing), "files": files_now(before)}
         os.chdir("/")
         with open(log) as calls:
-            return outcome, files, calls.read().split()
+            return Ran(outcome, files, calls.read().split())

@@ -1,18 +1,32 @@
 """Reads the cases of programs/, whose language programs/README.md describes. Python 3.8 or later."""
 
+import contextlib
 import glob
 import os
 import re
 
 STRING = r'"(?:[^"\\]|\\.)*"'
 REPEATED = rf"{STRING}(?: \* \d+)?"
-VALUE = re.compile(rf"{REPEATED}(?: \+ {REPEATED})*(?: \.\.)?|\S+")
-ESCAPE = re.compile(r"\\(?:x(..)|u\{(\w+)\}|(.))")
+TEXT = re.compile(rf"{REPEATED}(?: \+ {REPEATED})*(?: \.\.)?")
+VALUE = re.compile(rf"{TEXT.pattern}|\S+")
+ESCAPE = re.compile(r"\\(?:x(\w\w)|u\{(\w+)\}|(.))")
 ESCAPED = {"n": b"\n", "r": b"\r", "t": b"\t", '"': b'"', "\\": b"\\"}
+
+
+BARE = re.compile(r'[^"\s]\S*')
 
 
 class BadCase(Exception):
     """A line that is none of the language."""
+
+
+@contextlib.contextmanager
+def naming(place):
+    """Has an error in what is read name the place."""
+    try:
+        yield
+    except (BadCase, ValueError) as error:
+        raise BadCase(f"{place}: {error}") from None
 
 
 class Beginning(bytes):
@@ -30,10 +44,13 @@ class Case:
 
     def having(self, place, fields):
         """The case with other fields, which stands elsewhere."""
-        merged = dict(self.fields)
-        for kind, value in fields.items():
-            merged[kind] = {**merged.get(kind, {}), **value} if isinstance(value, dict) else value
-        return Case(self.program, place, self.title, merged)
+        return Case(self.program, place, self.title, merged(self.fields, fields))
+
+
+def merged(fields, others):
+    """The fields with others in their place or, of those with names, beside them."""
+    both = {kind: {**fields.get(kind, {}), **value} for kind, value in others.items() if isinstance(value, dict)}
+    return {**fields, **others, **both}
 
 
 DEFAULTS = {"words": [], "stdin": b"", "stdout": b"", "stderr": b"", "status": 0, "passed over": []}
@@ -46,9 +63,11 @@ DEFAULTS.update({it: {} for it in ("file", "pipe", "new", "link", "hard link", "
 def escaped(found):
     """The bytes of one escape."""
     byte, code, letter = found.groups()
-    if byte:
-        return bytes([int(byte, 16)])
-    return chr(int(code, 16)).encode() if code else ESCAPED[letter]
+    if letter and letter not in ESCAPED:
+        raise BadCase(f"no escape: {found[0]}")
+    if letter:
+        return ESCAPED[letter]
+    return bytes([int(byte, 16)]) if byte else chr(int(code, 16)).encode()
 
 
 def unquoted(string):
@@ -62,8 +81,10 @@ def unquoted(string):
 
 def text_of(value):
     """The bytes of quoted strings, each as often as it says. A bare word stays one."""
-    if value and not value.startswith('"'):
+    if BARE.fullmatch(value):
         return value
+    if not TEXT.fullmatch(value):
+        raise BadCase(f"no text: {value}")
     parts = [unquoted(it[1]) * int(it[2] or 1) for it in re.finditer(rf"({STRING})(?: \* (\d+))?", value)]
     return (Beginning if value.endswith(" ..") else bytes)(b"".join(parts))
 
@@ -94,7 +115,7 @@ READERS.update({it: names_of for it in ("calls", "fails", "passed over", "rows")
 READERS.update({it: text_of for it in ("stdin", "stdout", "stderr", "file", "pipe", "new")})
 READERS.update({it: int for it in ("status", "takes", "room")})
 READERS.update({it: bytes_of for it in ("link", "hard link")})
-READERS.update({it: str for it in ("again", "mode", "texts", "value")})
+READERS.update({it: str for it in ("again", "as", "mode", "texts", "value")})
 KINDS = "|".join(sorted(READERS, key=len, reverse=True))
 FIELD = re.compile(rf"({KINDS})(?: ({STRING}|[^\s:]+))?:(?: (.*))?")
 
@@ -106,20 +127,19 @@ class Field:
     """A field, as it is written."""
 
     def __init__(self, place, kind, name, written):
-        self.place, self.kind, self.name, self.written, self.lines = place, kind, name, written, []
+        self.place, self.kind, self.name, self.written, self.lines = place, kind, name, written or "", []
 
     def value(self):
         """What it says: of a text on lines of its own, those after a bar have a line feed at their end, others have none."""
         if self.kind == "rows" or not self.lines:
-            return READERS[self.kind](self.written or "")
+            return READERS[self.kind](self.written)
         lines = [line for _, line in self.lines]
         return b"".join(it[2:].encode() + b"\n" if it[0] == "|" else text_of(it) for it in lines)
 
     def added_to(self, fields):
-        value = self.value()
-        if self.name is None:
-            return {**fields, self.kind: value}
-        return {**fields, self.kind: {**fields.get(self.kind, {}), bytes_of(self.name): value}}
+        with naming(self.place):
+            value = self.value() if self.name is None else {bytes_of(self.name): self.value()}
+        return merged(fields, {self.kind: value})
 
 
 def fields_of(written):
@@ -129,21 +149,18 @@ def fields_of(written):
     return fields
 
 
-def rows_of(case, rows):
-    """A case for each row, whose values are those of the fields that `rows` names."""
-    kinds, cases = case["rows"], []
-    for place, line in rows:
-        values = VALUE.findall(line)
-        if len(values) != len(kinds):
-            raise BadCase(f"{place}: {len(values)} values, and {len(kinds)} are named")
-        fields = {kind: row_value(kind, value) for kind, value in zip(kinds, values)}
-        cases.append(case.having(place, fields))
-    return cases
-
-
 def row_value(kind, value):
     """The words of a row are one text with a space between each two."""
     return bytes_of(value).split(b" ") if kind == "words" else READERS[kind](value)
+
+
+def row_of(case, place, line):
+    """The case with the values of a row, which are those of the fields that `rows` names."""
+    kinds, values = case["rows"], VALUE.findall(line)
+    with naming(place):
+        if len(values) != len(kinds):
+            raise BadCase(f"{len(values)} values, and {len(kinds)} are named")
+        return case.having(place, {kind: row_value(kind, value) for kind, value in zip(kinds, values)})
 
 
 class Part:
@@ -156,7 +173,7 @@ class Part:
         """The cases of a program that it stands for, which have the common fields too."""
         case = Case(program, self.place, self.title, common).having(self.place, fields_of(self.written))
         rows = [row for it in self.written if it.kind == "rows" for row in it.lines]
-        return rows_of(case, rows) if rows else [case]
+        return [row_of(case, *it) for it in rows] or [case]
 
 
 def parts_of(path):
@@ -172,11 +189,15 @@ def take_line(groups, place, line):
     """Adds what a line says."""
     if line.startswith("== "):
         groups.append([Part(place, line[3:])])
+    elif not line or line[0] == "#":
+        pass
+    elif not groups:
+        raise BadCase(f"{place}: no case begins with {line}")
     elif line == "--":
         groups[-1].append(Part(place, groups[-1][0].title))
     elif line.startswith(("|", '"')):
         groups[-1][-1].written[-1].lines.append((place, line))
-    elif line and line[0] != "#":
+    else:
         found = FIELD.fullmatch(line)
         if not found:
             raise BadCase(f"{place}: no field: {line}")

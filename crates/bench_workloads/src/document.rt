@@ -5,18 +5,18 @@ use crate::json::array;
 use crate::levels::{cell_lines, partial_groups, remark_groups, spaced_groups, sums, union_groups};
 use crate::lists::{list, right_list, tree};
 use crate::objects::real;
+use crate::parts::Built;
 use crate::trials::{kept_trials, rejected_trials};
 use crate::words::{fill, lines, weak_spaces};
 use crate::workload::Workload;
-use prettyless::text::BuildError;
-use prettyless::{DocBuilder, DocPlace};
+use prettyless::DocPlace;
 
-// The document of a workload at a size.
-fn built_at<'a, D: DocPlace<'a>>(
+/// The document of a workload at a size, with all its nodes in this place.
+pub(crate) fn document<'a, D: DocPlace<'a>>(
     place: &'a D,
     workload: Workload,
     size: usize,
-) -> Result<DocBuilder<'a, D>, BuildError> {
+) -> Built<'a, D> {
     match workload {
         Workload::Tree => tree(place, size),
         Workload::List | Workload::FlatList => list(place, size),
@@ -38,13 +38,4 @@ fn built_at<'a, D: DocPlace<'a>>(
         Workload::PartialGroups => partial_groups(place, size),
         Workload::CellLines => cell_lines(place, size),
     }
-}
-
-/// The document of a workload at a size, with all its nodes in this place.
-pub(crate) fn document<'a, D: DocPlace<'a>>(
-    place: &'a D,
-    workload: Workload,
-    size: usize,
-) -> Result<D::Doc, BuildError> {
-    built_at(place, workload, size)?.into_doc()
 }

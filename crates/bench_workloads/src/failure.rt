@@ -1,5 +1,4 @@
-ghost use Rattle.std.specs.Prelude.{◌≡◌};
-ghost use Rattle.bench_workloads.specs.declared.failure.Failure.TheVariants.{Build, Render, Memory, System};
+//! Why a run stops.
 
 use prettyless::RenderError;
 use prettyless::text::BuildError;
@@ -43,32 +42,24 @@ impl Failure {
 }
 
 impl From<BuildError> for Failure {
-    ghost from_gives = { λ e f. f ≡ Build e };
-
     fn from(error: BuildError) -> Failure {
         Failure::Build(error)
     }
 }
 
 impl From<RenderError<fmt::Error>> for Failure {
-    ghost from_gives = { λ e f. f ≡ Render e };
-
     fn from(error: RenderError<fmt::Error>) -> Failure {
         Failure::Render(error)
     }
 }
 
 impl From<AllocError> for Failure {
-    ghost from_gives = { λ e f. f ≡ Memory e };
-
     fn from(error: AllocError) -> Failure {
         Failure::Memory(error)
     }
 }
 
 impl From<io::Error> for Failure {
-    ghost from_gives = { λ e f. f ≡ System e };
-
     fn from(error: io::Error) -> Failure {
         Failure::System(error)
     }

@@ -1,58 +1,48 @@
 //! Groups in groups.
 
-use crate::parts::{on_own_line, text, text_line};
-use prettyless::text::BuildError;
-use prettyless::{BuildDoc, Doc, DocBuilder, DocPlace};
+use crate::parts::{Built, grouped, joined, node, on_own_line, text, text_line};
+use prettyless::{Doc, DocPlace};
 
 /// Groups nested so deep, with a text and a line in each in front of the next.
-pub(crate) fn text_groups<'a, D: DocPlace<'a>>(
-    place: &'a D,
-    depth: usize,
-) -> Result<DocBuilder<'a, D>, BuildError> {
+pub(crate) fn text_groups<'a, D: DocPlace<'a>>(place: &'a D, depth: usize) -> Built<'a, D> {
     let mut all = text(place, "a");
     for _ in 0..depth {
-        all = text_line(place, "a")?.join(all)?.group()?;
+        all = grouped(place, joined(place, text_line(place, "a"), all));
     }
-    Ok(all)
+    all
 }
 
 // Two texts that don't fit a line of 80 columns together, and a line between them.
-fn wide<'a, D: DocPlace<'a>>(place: &'a D) -> Result<DocBuilder<'a, D>, BuildError> {
+fn wide<'a, D: DocPlace<'a>>(place: &'a D) -> Built<'a, D> {
     let half = "a text of fifty columns, of which two fill a line.";
-    text_line(place, half)?.join(text(place, half))
+    joined(place, text_line(place, half), text(place, half))
 }
 
 /// Groups nested so deep, around two texts that don't fit a line.
-pub(crate) fn bare_groups<'a, D: DocPlace<'a>>(
-    place: &'a D,
-    depth: usize,
-) -> Result<DocBuilder<'a, D>, BuildError> {
-    let mut all = wide(place)?;
+pub(crate) fn bare_groups<'a, D: DocPlace<'a>>(place: &'a D, depth: usize) -> Built<'a, D> {
+    let mut all = wide(place);
     for _ in 0..depth {
         // A builder makes no group of a group.
-        let inner = all.into_doc()?;
-        all = DocBuilder(place, BuildDoc::Doc(Doc::Group(inner)));
+        all = node(place, Doc::Group(all?));
     }
-    Ok(all)
+    all
 }
 
 // A document on a line of its own where it does not fit, in a group, and a text after that.
-fn tail_group<'a, D: DocPlace<'a>>(
-    inner: DocBuilder<'a, D>,
-) -> Result<DocBuilder<'a, D>, BuildError> {
-    let place = inner.0;
-    let front = on_own_line(inner)?.group()?;
-    front.join(text(place, "a text of forty columns, behind a group."))
+fn tail_group<'a, D: DocPlace<'a>>(place: &'a D, inner: Built<'a, D>) -> Built<'a, D> {
+    let front = grouped(place, on_own_line(place, inner));
+    joined(
+        place,
+        front,
+        text(place, "a text of forty columns, behind a group."),
+    )
 }
 
 /// Groups nested so deep, with a text after each.
-pub(crate) fn tail_groups<'a, D: DocPlace<'a>>(
-    place: &'a D,
-    depth: usize,
-) -> Result<DocBuilder<'a, D>, BuildError> {
+pub(crate) fn tail_groups<'a, D: DocPlace<'a>>(place: &'a D, depth: usize) -> Built<'a, D> {
     let mut all = text(place, "a");
     for _ in 0..depth {
-        all = tail_group(all)?;
+        all = tail_group(place, all);
     }
-    Ok(all)
+    all
 }

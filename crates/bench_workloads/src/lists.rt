@@ -1,9 +1,9 @@
 //! Lists in parentheses.
 
-use crate::parts::text;
+use crate::parts::{Built, grouped, joined, line, nested, placed, text};
 use prettyless::combinators::line_or_space;
 use prettyless::text::BuildError;
-use prettyless::{DocAllocator, DocAllocatorBetween, DocBuilder, DocPlace};
+use prettyless::{DocAllocatorBetween, DocPlace};
 use std::iter;
 
 const ATOM: &str = "atom";
@@ -12,51 +12,34 @@ const ATOM: &str = "atom";
 const CHILDREN: usize = 10;
 
 // Items in parentheses.
-fn parenthesised<'a, D: DocPlace<'a>>(
-    place: &'a D,
-    items: DocBuilder<'a, D>,
-) -> Result<DocBuilder<'a, D>, BuildError> {
-    let inner = items.nest(1)?.group()?;
-    text(place, "(").join(inner)?.join(text(place, ")"))
+fn parenthesised<'a, D: DocPlace<'a>>(place: &'a D, items: Built<'a, D>) -> Built<'a, D> {
+    let inner = grouped(place, nested(place, items, 1));
+    joined(
+        place,
+        joined(place, text(place, "("), inner),
+        text(place, ")"),
+    )
 }
 
 /// So many atoms in one list.
-pub(crate) fn list<'a, D: DocPlace<'a>>(
-    place: &'a D,
-    atoms: usize,
-) -> Result<DocBuilder<'a, D>, BuildError> {
+pub(crate) fn list<'a, D: DocPlace<'a>>(place: &'a D, atoms: usize) -> Built<'a, D> {
     let atom: &'a str = ATOM;
-    let items = place.intersperse(iter::repeat_n(atom, atoms), line_or_space())?;
+    let items = placed(place.intersperse(iter::repeat_n(atom, atoms), line_or_space()));
     parenthesised(place, items)
 }
 
 // An atom and a line in front of a document.
-fn in_front<'a, D: DocPlace<'a>>(
-    inner: DocBuilder<'a, D>,
-) -> Result<DocBuilder<'a, D>, BuildError> {
-    let place = inner.0;
-    let rest = place.line()?.join(inner)?;
-    text(place, ATOM).join(rest)
-}
-
-// So many atoms in front of a last one.
-fn leaning<'a, D: DocPlace<'a>>(
-    place: &'a D,
-    atoms: usize,
-) -> Result<DocBuilder<'a, D>, BuildError> {
-    let mut all = text(place, ATOM);
-    for _ in 0..atoms {
-        all = in_front(all)?;
-    }
-    Ok(all)
+fn in_front<'a, D: DocPlace<'a>>(place: &'a D, inner: Built<'a, D>) -> Built<'a, D> {
+    joined(place, text(place, ATOM), joined(place, line(place), inner))
 }
 
 /// So many atoms in front of a last one, in a group.
-pub(crate) fn right_list<'a, D: DocPlace<'a>>(
-    place: &'a D,
-    atoms: usize,
-) -> Result<DocBuilder<'a, D>, BuildError> {
-    leaning(place, atoms)?.nest(1)?.group()
+pub(crate) fn right_list<'a, D: DocPlace<'a>>(place: &'a D, atoms: usize) -> Built<'a, D> {
+    let mut all = text(place, ATOM);
+    for _ in 0..atoms {
+        all = in_front(place, all);
+    }
+    grouped(place, nested(place, all, 1))
 }
 
 /// Where trees are built. It knows no lifetime, so that a function that calls itself may have it as a bound.
@@ -75,18 +58,16 @@ impl<'a, D: DocPlace<'a>> TreePlace for &'a D {
     type Doc = D::Doc;
 
     fn atom(self) -> Result<D::Doc, BuildError> {
-        text(self, ATOM).into_doc()
+        text(self, ATOM)
     }
 
     fn next_line(self, front: D::Doc, next: D::Doc) -> Result<D::Doc, BuildError> {
-        let line = self.line()?;
-        let front = DocBuilder::from_doc(self, front).join(line)?;
-        let next = DocBuilder::from_doc(self, next);
-        front.join(next)?.into_doc()
+        let with_line = joined(self, Ok(front), line(self));
+        joined(self, with_line, Ok(next))
     }
 
     fn listed(self, items: D::Doc) -> Result<D::Doc, BuildError> {
-        parenthesised(self, DocBuilder::from_doc(self, items))?.into_doc()
+        parenthesised(self, Ok(items))
     }
 }
 
@@ -104,10 +85,6 @@ fn levels<P: TreePlace>(place: P, height: u32) -> Result<P::Doc, BuildError> {
 
 /// Lists of ten, in lists of ten, and so on, with as many atoms as the greatest power of ten up to this number has, and
 /// with one at least.
-pub(crate) fn tree<'a, D: DocPlace<'a>>(
-    place: &'a D,
-    atoms: usize,
-) -> Result<DocBuilder<'a, D>, BuildError> {
-    let root = levels(place, atoms.max(1).ilog10())?;
-    Ok(DocBuilder::from_doc(place, root))
+pub(crate) fn tree<'a, D: DocPlace<'a>>(place: &'a D, atoms: usize) -> Built<'a, D> {
+    levels(place, atoms.max(1).ilog10())
 }

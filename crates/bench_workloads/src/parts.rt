@@ -1,33 +1,108 @@
-//! What documents are made of.
+//! What documents are made of: the calls of builders, each over pointers that were made or refused.
+//!
+//! A `?` on a builder takes the prover longer than one on a pointer, so each stands here once.
 
 use prettyless::text::{BuildError, Text};
-use prettyless::{Doc, DocAllocator, DocBuilder, DocPlace};
+use prettyless::{BuildDoc, Doc, DocAllocator, DocBuilder, DocPlace};
+
+/// A pointer to a document, or why there is none.
+pub(crate) type Built<'a, D> = Result<<D as DocPlace<'a>>::Doc, BuildError>;
+
+/// A pointer to a node.
+#[inline(always)]
+pub(crate) fn node<'a, D: DocPlace<'a>>(place: &'a D, node: Doc<'a, D::Doc>) -> Built<'a, D> {
+    DocBuilder::new(place, node).into_doc()
+}
 
 /// A text that counts as one column a byte.
-pub(crate) fn text<'a, D: DocPlace<'a>>(place: &'a D, text: &'a str) -> DocBuilder<'a, D> {
-    DocBuilder::new(place, Doc::Text(Text::Borrowed(text)))
+#[inline(always)]
+pub(crate) fn text<'a, D: DocPlace<'a>>(place: &'a D, text: &'a str) -> Built<'a, D> {
+    node(place, Doc::Text(Text::Borrowed(text)))
+}
+
+/// A pointer to what was built.
+#[inline(always)]
+pub(crate) fn placed<'a, D: DocPlace<'a>>(
+    built: Result<DocBuilder<'a, D>, BuildError>,
+) -> Built<'a, D> {
+    built?.into_doc()
+}
+
+/// A line, or a space where lines are flat.
+#[inline(always)]
+pub(crate) fn line<'a, D: DocPlace<'a>>(place: &'a D) -> Built<'a, D> {
+    placed(place.line())
 }
 
 /// A line break that is kept.
-pub(crate) fn line_break<'a, D: DocPlace<'a>>(place: &'a D) -> DocBuilder<'a, D> {
-    DocBuilder::new(place, Doc::HardLine)
+#[inline(always)]
+pub(crate) fn line_break<'a, D: DocPlace<'a>>(place: &'a D) -> Built<'a, D> {
+    node(place, Doc::HardLine)
+}
+
+/// A document, and one after it.
+#[inline(always)]
+pub(crate) fn joined<'a, D: DocPlace<'a>>(
+    place: &'a D,
+    front: Built<'a, D>,
+    next: Built<'a, D>,
+) -> Built<'a, D> {
+    let front = DocBuilder::from_doc(place, front?);
+    placed(front.join(DocBuilder::from_doc(place, next?)))
+}
+
+/// A document, further in.
+#[inline(always)]
+pub(crate) fn nested<'a, D: DocPlace<'a>>(
+    place: &'a D,
+    inner: Built<'a, D>,
+    columns: isize,
+) -> Built<'a, D> {
+    placed(DocBuilder::from_doc(place, inner?).nest(columns))
+}
+
+/// A document in a group.
+#[inline(always)]
+pub(crate) fn grouped<'a, D: DocPlace<'a>>(place: &'a D, inner: Built<'a, D>) -> Built<'a, D> {
+    placed(DocBuilder::from_doc(place, inner?).group())
+}
+
+/// A text that is put off to the end of its line.
+#[inline(always)]
+pub(crate) fn put_off<'a, D: DocPlace<'a>>(place: &'a D, remark: &'a str) -> Built<'a, D> {
+    placed(DocBuilder::from_doc(place, text(place, remark)?).as_line_suffix())
+}
+
+/// A document, or else a text.
+#[inline(always)]
+pub(crate) fn or_text<'a, D: DocPlace<'a>>(
+    place: &'a D,
+    first: Built<'a, D>,
+    second: &'a str,
+) -> Built<'a, D> {
+    let second = BuildDoc::Doc(Doc::Text(Text::Borrowed(second)));
+    placed(DocBuilder::from_doc(place, first?).union(second))
+}
+
+/// A document whose first line fits, or else a text.
+#[inline(always)]
+pub(crate) fn or_text_partly<'a, D: DocPlace<'a>>(
+    place: &'a D,
+    first: Built<'a, D>,
+    second: &'a str,
+) -> Built<'a, D> {
+    let second = BuildDoc::Doc(Doc::Text(Text::Borrowed(second)));
+    placed(DocBuilder::from_doc(place, first?).partial_union(second))
 }
 
 /// A text, and a line after it.
 #[inline(always)]
-pub(crate) fn text_line<'a, D: DocPlace<'a>>(
-    place: &'a D,
-    front: &'a str,
-) -> Result<DocBuilder<'a, D>, BuildError> {
-    let line = place.line()?;
-    text(place, front).join(line)
+pub(crate) fn text_line<'a, D: DocPlace<'a>>(place: &'a D, front: &'a str) -> Built<'a, D> {
+    joined(place, text(place, front), line(place))
 }
 
 /// A document on a line of its own where it does not fit.
 #[inline(always)]
-pub(crate) fn on_own_line<'a, D: DocPlace<'a>>(
-    inner: DocBuilder<'a, D>,
-) -> Result<DocBuilder<'a, D>, BuildError> {
-    let line = inner.0.line_()?;
-    line.join(inner)
+pub(crate) fn on_own_line<'a, D: DocPlace<'a>>(place: &'a D, inner: Built<'a, D>) -> Built<'a, D> {
+    joined(place, placed(place.line_()), inner)
 }

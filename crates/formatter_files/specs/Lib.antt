@@ -6,5 +6,4 @@ pub mod Endings
 pub mod Heads
 pub mod Layouts
 pub mod Names
-pub mod Places
 pub mod Words

@@ -1,5 +1,5 @@
 //! What programs that format files have in common: the options that their words name, what becomes of a layout while it is made,
-//! how a file is replaced, how two texts differ, places in a text, and how the program ends.
+//! how a file is replaced, how two texts differ, and how the program ends.
 #![tactic(auto)]
 
 pub mod action;
@@ -12,7 +12,6 @@ pub mod formatter;
 pub mod head;
 mod hunks;
 pub mod message;
-pub mod place;
 pub mod replace;
 mod rewriting;
 mod search;

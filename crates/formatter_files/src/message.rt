@@ -1,6 +1,6 @@
 //! Messages about texts that are refused.
-use crate::place::Place;
 use std::io;
+use text_places::Place;
 
 // The longest word that a message shows, in bytes.
 const SHOWN: usize = 32;

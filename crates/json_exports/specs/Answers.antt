@@ -4,10 +4,10 @@ use Rattle.std.specs.Str.{IsUtf8}
 use Rattle.json_validity.specs.Document.{document}
 use Rattle.json_formatter.specs.Formats.{IsFormatted}
 use Rattle.json_formatter.specs.declared.style.Style.{Style}
-use Rattle.jsonfmt_request.specs.Expected.{name_of}
-use Rattle.formatter_files.specs.Places.{IsPlaceWithin}
-use Rattle.jsonfmt_request.specs.declared.expected.Expected.{Expected}
-use Rattle.jsonfmt_request.specs.declared.expected.Expected.TheVariants.{Utf8}
+use Rattle.json_lexemes.specs.Expected.{name_of}
+use Rattle.text_places.specs.Places.{IsPlaceWithin}
+use Rattle.json_lexemes.specs.declared.expected.Expected.{Expected}
+use Rattle.json_lexemes.specs.declared.expected.Expected.TheVariants.{Utf8}
 use Rattle.prettyless_area.specs.Overlay.{overlay}
 use Rattle.prettyless_exports.specs.Answers.{Holds, IsUntouched}
 

@@ -9,7 +9,7 @@ ghost use Rattle.json_exports.specs.Statuses.{RefusesJson, JsonStatusHolds};
 
 use crate::status::Status;
 use json_formatter::{FormatError, Style, render};
-use jsonfmt_request::fault::fault_of;
+use json_lexemes::fault_of;
 use prettyless_area::area::{Area, Full};
 use prettyless_exports::layout::limit_from;
 use prettyless_exports::text::{Put, put_name};

@@ -6,3 +6,5 @@ pub mod Laws
 pub mod View
 pub mod Lexer
 pub mod Words
+pub mod Expected
+pub mod Next

@@ -1,3 +1,1 @@
-pub mod Expected
-pub mod Grammar
 pub mod Words

@@ -1,5 +1,5 @@
 //! Each call of a place of nodes once, with ample memory.
-use crate::expected::{Failing, built, refuses, rows, shows};
+use crate::expected::{built, failing, refuses, rows, shows};
 use prettyless::prelude::*;
 use prettyless::text::{BuildError, CowStr};
 use prettyless::{ColumnTest, DocBuilder, NestingTest};
@@ -13,30 +13,46 @@ pub(crate) fn leaves<'a, D: DocPlace<'a>>(rt: &impl Abort, place: &'a D) {
         place.hardline() => "HardLine";
         place.weak_line() => "WeakLine";
         place.space() => "\" \"";
+        place.spaces(3) => "\"   \"";
         place.weak_space() => "WeakSpace";
         place.expand_parent() => "ExpandParent";
-    }
-}
-
-pub(crate) fn lines<'a, D: DocPlace<'a>>(rt: &impl Abort, place: &'a D) {
-    rows! { shows, rt, place;
         place.line() => "LineOrSpace";
         place.line_() => "LineOrNil";
         place.softline() => "SoftLineOrSpace";
         place.softline_() => "SoftLineOrNil";
-        place.spaces(3) => "\"   \"";
-        place.reflow("a  b") => "[\"a\", SoftLineOrSpace, SoftLineOrSpace, \"b\"]";
     }
 }
 
 pub(crate) fn texts<'a, D: DocPlace<'a>>(rt: &impl Abort, place: &'a D) {
+    let line = text(rt, place, "-");
     rows! { shows, rt, place;
+        place.separate(marked(rt, place), line) => "[\"a\", \",\", \"-\", \"b\"]";
+        place.bracketed("[", marked(rt, place), "]", 2)
+            => "Group([\"[\", Nest(2, [LineOrNil, \"a\", \",\", LineOrSpace, \"b\"]), LineOrNil, \"]\"])";
         place.text(CowStr::Borrowed("ab")) => "\"ab\"";
         place.text(CowStr::Borrowed("")) => "Nil";
         place.ascii_text(CowStr::Borrowed("")) => "\"\"";
         place.as_string(16) => "\"16\"";
         place.multiline_text(CowStr::Borrowed("a\nb")) => "MultilineText(\"a\\nb\")";
+        place.reflow("a  b") => "[\"a\", SoftLineOrSpace, SoftLineOrSpace, \"b\"]";
     }
+}
+
+fn text<'a, D: DocPlace<'a>>(rt: &impl Abort, place: &'a D, text: &'a str) -> DocBuilder<'a, D> {
+    built(rt, place.text(CowStr::Borrowed(text)))
+}
+
+// Placed letters, each but the last with a comma.
+fn marked<'a, D: DocPlace<'a>>(rt: &impl Abort, place: &'a D) -> Vec<D::Doc> {
+    let mut docs = Vec::new(place.memory());
+    for letter in ["a", "b"] {
+        let placed = text(rt, place, letter).into_doc();
+        docs.push(placed.expect(rt, "a text was not placed"))
+            .expect(rt, "memory was refused");
+    }
+    place
+        .punctuated(docs, text(rt, place, ","))
+        .expect(rt, "no marks were placed")
 }
 
 pub(crate) fn operands<'a, D: DocPlace<'a>, P: Pretty<'a, D> + Copy>(
@@ -55,13 +71,6 @@ pub(crate) fn operands<'a, D: DocPlace<'a>, P: Pretty<'a, D> + Copy>(
     }
 }
 
-fn all<'a, D: DocPlace<'a>, P: Pretty<'a, D> + Copy>(
-    place: &'a D,
-    items: &'a [P],
-) -> Result<DocBuilder<'a, D>, BuildError> {
-    place.concat(items.iter().copied())
-}
-
 fn between<'a, D: DocPlace<'a>, P: Pretty<'a, D> + Copy, S: Pretty<'a, D> + Drop>(
     place: &'a D,
     items: &'a [P],
@@ -78,39 +87,9 @@ pub(crate) fn sequences<'a, D: DocPlace<'a>, P: Pretty<'a, D> + Copy>(
     two: &'a [P],
 ) {
     rows! { shows, rt, place;
-        all(place, two) => "[\"a\", \"b\"]";
+        place.concat(two.iter().copied()) => "[\"a\", \"b\"]";
         between(place, two, space()) => "[\"a\", \" \", \"b\"]";
-        between(place, one, as_string(Failing)) => "\"a\"";
+        between(place, one, as_string(failing())) => "\"a\"";
     }
-    refuses(rt, between(place, two, as_string(Failing)));
-}
-
-fn text<'a, D: DocPlace<'a>>(rt: &impl Abort, place: &'a D, text: &'a str) -> DocBuilder<'a, D> {
-    built(rt, place.text(CowStr::Borrowed(text)))
-}
-
-// A placed text of each letter.
-fn letters<'a, D: DocPlace<'a>>(rt: &impl Abort, place: &'a D, letters: &[&'a str]) -> Vec<D::Doc> {
-    let mut docs = Vec::new(place.memory());
-    for letter in letters {
-        let text = text(rt, place, letter).into_doc();
-        docs.push(text.expect(rt, "a text was not placed"))
-            .expect(rt, "memory was refused");
-    }
-    docs
-}
-
-// Letters, each but the last with a comma.
-fn marked<'a, D: DocPlace<'a>>(rt: &impl Abort, place: &'a D) -> Vec<D::Doc> {
-    let marked = place.punctuated(letters(rt, place, &["a", "b"]), text(rt, place, ","));
-    marked.expect(rt, "no marks were placed")
-}
-
-pub(crate) fn lists<'a, D: DocPlace<'a>>(rt: &impl Abort, place: &'a D) {
-    let line = text(rt, place, "-");
-    rows! { shows, rt, place;
-        place.separate(marked(rt, place), line) => "[\"a\", \",\", \"-\", \"b\"]";
-        place.bracketed("[", marked(rt, place), "]", 2)
-            => "Group([\"[\", Nest(2, [LineOrNil, \"a\", \",\", LineOrSpace, \"b\"]), LineOrNil, \"]\"])";
-    }
+    refuses(rt, between(place, two, as_string(failing())));
 }

@@ -5,7 +5,7 @@ use prettyless::text::CowStr;
 use prettyless::{ColumnTest, NestingTest};
 use std::process::Abort;
 
-pub(crate) fn leaves<'a, D: DocPlace<'a>>(rt: &impl Abort, place: &'a D) {
+pub(crate) fn tokens<'a, D: DocPlace<'a>>(rt: &impl Abort, place: &'a D) {
     rows! { shows, rt, place;
         nil().pretty(place) => "Nil";
         fail().pretty(place) => "Fail";
@@ -13,33 +13,14 @@ pub(crate) fn leaves<'a, D: DocPlace<'a>>(rt: &impl Abort, place: &'a D) {
         weak_line().pretty(place) => "WeakLine";
         expand_parent().pretty(place) => "ExpandParent";
         space().pretty(place) => "\" \"";
+        spaces(2).pretty(place) => "\"  \"";
         weak_space().pretty(place) => "WeakSpace";
-    }
-}
-
-pub(crate) fn lines<'a, D: DocPlace<'a>>(rt: &impl Abort, place: &'a D) {
-    rows! { shows, rt, place;
         line_or_nil().pretty(place) => "LineOrNil";
         line_or_space().pretty(place) => "LineOrSpace";
         soft_line_or_nil().pretty(place) => "SoftLineOrNil";
         soft_line_or_space().pretty(place) => "SoftLineOrSpace";
-        spaces(2).pretty(place) => "\"  \"";
         as_string(16).pretty(place) => "\"16\"";
         multiline_text(CowStr::Borrowed("a\nb")).pretty(place) => "MultilineText(\"a\\nb\")";
-    }
-}
-
-pub(crate) fn indents<'a, D: DocPlace<'a>, P: Pretty<'a, D> + Copy>(
-    rt: &impl Abort,
-    place: &'a D,
-    a: P,
-) {
-    rows! { shows, rt, place;
-        nest(-2, a).pretty(place) => "Nest(-2, \"a\")";
-        indent(2, a).pretty(place) => "Nest(2, \"a\")";
-        dedent(2, a).pretty(place) => "Nest(-2, \"a\")";
-        align(a).pretty(place) => "Align(\"a\")";
-        dedent_to_root(a).pretty(place) => "DedentToRoot(\"a\")";
     }
 }
 
@@ -49,6 +30,11 @@ pub(crate) fn wrappers<'a, D: DocPlace<'a>, P: Pretty<'a, D> + Copy>(
     line: P,
 ) {
     rows! { shows, rt, place;
+        nest(-2, line).pretty(place) => "Nest(-2, WeakLine)";
+        indent(2, line).pretty(place) => "Nest(2, WeakLine)";
+        dedent(2, line).pretty(place) => "Nest(-2, WeakLine)";
+        align(line).pretty(place) => "Align(WeakLine)";
+        dedent_to_root(line).pretty(place) => "DedentToRoot(WeakLine)";
         group(line).pretty(place) => "Group(WeakLine)";
         flatten(line).pretty(place) => "Flatten(WeakLine)";
         line_suffix(line).pretty(place) => "LineSuffix(WeakLine)";

@@ -6,9 +6,9 @@ use std::alloc::Global;
 use std::fmt;
 use std::process::Abort;
 
-// Calls that are given a place of nodes, each with what its answer is shown as: `CALL => SHOWN;`.
+// Calls, each with what its answer is shown as: `CALL => SHOWN;`. They are given a place of nodes, or memory.
 macro_rules! rows {
-    ($compare:ident, $rt:expr, $place:expr; $($answer:expr => $shown:literal;)+) => {
+    ($compare:ident, $rt:expr, $place:expr; $($answer:expr => $shown:expr;)+) => {
         $($compare($rt, $place, $answer, $shown);)+
     };
 }
@@ -45,13 +45,38 @@ pub(crate) fn shows<'a, D: DocPlace<'a>>(
     compare(rt, place.memory(), &built, text);
 }
 
-// A value that cannot be printed.
-#[derive(Drop)]
-pub(crate) struct Failing;
+// Compares what a placed document is shown as.
+pub(crate) fn points<'a, D: DocPlace<'a>, T: fmt::Debug + Drop>(
+    rt: &impl Abort,
+    place: &'a D,
+    placed: Result<T, BuildError>,
+    text: &str,
+) {
+    let pointer = placed.expect(rt, "a document was not placed");
+    compare(rt, place.memory(), &pointer, text);
+}
 
-impl fmt::Display for Failing {
-    fn fmt<W: fmt::Write>(&self, _f: &mut fmt::Formatter<W>) -> fmt::Result {
-        Err(fmt::Error)
+// Prints pieces, whatever the writes answer, and then fails or ends well.
+#[derive(Drop)]
+pub(crate) struct Pieces {
+    pub(crate) pieces: &'static [&'static str],
+    pub(crate) fails: bool,
+}
+
+impl fmt::Display for Pieces {
+    fn fmt<W: fmt::Write>(&self, f: &mut fmt::Formatter<W>) -> fmt::Result {
+        for piece in self.pieces {
+            let _ = f.write_str(piece);
+        }
+        if self.fails { Err(fmt::Error) } else { Ok(()) }
+    }
+}
+
+// What cannot be printed.
+pub(crate) fn failing() -> Pieces {
+    Pieces {
+        pieces: &[],
+        fails: true,
     }
 }
 

@@ -16,10 +16,12 @@ mod expected;
 #[cfg(test)]
 mod nodes;
 #[cfg(test)]
-mod parts;
-#[cfg(test)]
 mod places;
 #[cfg(test)]
 mod pointers;
+#[cfg(test)]
+mod sinks;
+#[cfg(test)]
+mod texts;
 #[cfg(test)]
 mod values;

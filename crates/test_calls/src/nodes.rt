@@ -1,9 +1,8 @@
 //! Nodes that are not placed yet, documents in the making, and what places them: the calls that can fail.
-use crate::expected::{rows, shows};
-use crate::pointers::points;
+use crate::expected::{points, rows, shows};
 use prettyless::prelude::*;
 use prettyless::text::{BuildError, CowStr};
-use prettyless::{BuildDoc, Doc, DocBuilder, DocPtr};
+use prettyless::{BuildDoc, Doc, DocBuilder};
 use std::fmt;
 use std::process::Abort;
 
@@ -26,10 +25,10 @@ fn makes_node<'a, D: DocPlace<'a>>(
     text: &str,
 ) {
     let node = made.expect(rt, "a node was not made");
-    makes(rt, place, Ok(BuildDoc::Doc(node)), text);
+    shows(rt, place, Ok(DocBuilder::new(place, node)), text);
 }
 
-pub(crate) fn nodes<'a, D: DocPlace<'a>>(rt: &impl Abort, place: &'a D) {
+pub(crate) fn makings<'a, D: DocPlace<'a>>(rt: &impl Abort, place: &'a D) {
     rows! { makes_node, rt, place;
         Doc::text(place.memory(), CowStr::Borrowed("xy")) => "\"xy\"";
         Doc::as_string(place.memory(), 16) => "\"16\"";
@@ -38,9 +37,6 @@ pub(crate) fn nodes<'a, D: DocPlace<'a>>(rt: &impl Abort, place: &'a D) {
         Doc::line_(place) => "LineOrNil";
         Doc::WeakLine.clone(place) => "WeakLine";
     }
-}
-
-pub(crate) fn makings<'a, D: DocPlace<'a>>(rt: &impl Abort, place: &'a D) {
     rows! { makes, rt, place;
         BuildDoc::text(place.memory(), CowStr::Borrowed("xy")) => "\"xy\"";
         BuildDoc::as_string(place.memory(), 16) => "\"16\"";
@@ -61,10 +57,10 @@ fn copied<'a, D: DocPlace<'a>>(rt: &impl Abort, place: &'a D) -> Result<D::Doc, 
     copy
 }
 
-pub(crate) fn placings<'a, D: DocPlace<'a, Doc = T>, T: DocPtr<'a> + fmt::Debug>(
-    rt: &impl Abort,
-    place: &'a D,
-) {
+pub(crate) fn placings<'a, D: DocPlace<'a>>(rt: &impl Abort, place: &'a D)
+where
+    D::Doc: fmt::Debug,
+{
     rows! { points, rt, place;
         place.alloc_cow(BuildDoc::Doc(Doc::HardLine)) => "HardLine";
         DocBuilder::new(place, Doc::WeakLine).into_doc() => "WeakLine";

@@ -4,69 +4,47 @@ use bumpalo::Bump;
 use prettyless::prelude::*;
 use prettyless::text::Text;
 use prettyless::{Arena, BoxAllocator, Doc, DocBuilder, DocPtr, IntoRef, RcAllocator};
-use std::alloc::Global;
 use std::fmt;
 use std::process::Abort;
 
-fn build<'a, D: DocPlace<'a>>(rt: &impl Abort, place: &'a D) {
-    calls::leaves(rt, place);
-    calls::lines(rt, place);
-    calls::texts(rt, place);
-    calls::lists(rt, place);
-    builders::joins(rt, place);
-    builders::wrappers(rt, place);
-    builders::indents(rt, place);
-    builders::brackets(rt, place);
-    builders::copies(rt, place);
-    combined::leaves(rt, place);
-    combined::lines(rt, place);
-    combined::wrappers(rt, place, weak_line());
-    values::texts(rt, place);
-}
-
-fn make<'a, D: DocPlace<'a, Doc = T>, T: DocPtr<'a> + fmt::Debug>(rt: &impl Abort, place: &'a D) {
-    nodes::nodes(rt, place);
-    nodes::makings(rt, place);
-    nodes::placings(rt, place);
-    pointers::leaves(rt, place);
-    pointers::lines(rt, place);
-    pointers::wrappers(rt, place);
-}
-
 // The texts are of any type, since the proof of a call with `&str` takes much longer.
-fn take<'a, D: DocPlace<'a, Doc = T>, P: Pretty<'a, D> + Copy, T: DocPtr<'a> + fmt::Debug>(
+fn each<'a, D: DocPlace<'a>, P: Pretty<'a, D> + Copy>(
     rt: &impl Abort,
     place: &'a D,
     a: P,
     b: P,
-) {
+    one: &'a [P],
+    two: &'a [P],
+)
+where
+    D::Doc: fmt::Debug,
+{
+    calls::leaves(rt, place);
+    calls::texts(rt, place);
     calls::operands(rt, place, a, b);
+    calls::sequences(rt, place, one, two);
+    builders::wrappers(rt, place);
+    builders::joins(rt, place);
     builders::operands(rt, place, a, b);
-    pointers::operands(rt, place, a, b);
-    combined::indents(rt, place, a);
+    combined::tokens(rt, place);
+    combined::wrappers(rt, place, weak_line());
     combined::choices(rt, place, a, b);
+    combined::sequences(rt, place, two);
+    nodes::makings(rt, place);
+    nodes::placings(rt, place);
+    pointers::leaves(rt, place);
+    pointers::operands(rt, place, a, b);
+    pointers::sequences(rt, place, two);
+    values::texts(rt, place);
     values::several(rt, place, a, b);
-    values::longest(rt, place, a, b);
     values::macros(rt, place, a, b);
 }
 
-// Likewise of several texts at once.
-fn take_each<'a, D: DocPlace<'a, Doc = T>, P: Pretty<'a, D> + Copy, T: DocPtr<'a> + fmt::Debug>(
-    rt: &impl Abort,
-    place: &'a D,
-    one: &'a [P],
-    two: &'a [P],
-) {
-    calls::sequences(rt, place, one, two);
-    pointers::sequences(rt, place, two);
-    combined::sequences(rt, place, two);
-}
-
-fn all<'a, D: DocPlace<'a, Doc = T>, T: DocPtr<'a> + fmt::Debug>(rt: &impl Abort, place: &'a D) {
-    build(rt, place);
-    make(rt, place);
-    take(rt, place, "a", "b");
-    take_each(rt, place, &["a"], &["a", "b"]);
+fn all<'a, D: DocPlace<'a>>(rt: &impl Abort, place: &'a D)
+where
+    D::Doc: fmt::Debug,
+{
+    each(rt, place, "a", "b", &["a"], &["a", "b"]);
 }
 
 // `owned` is lent to the documents. A place by reference is the same place: nodes are put there, and copied.
@@ -90,14 +68,14 @@ fn boxes(rt: HostRuntime) {
     in_boxes(&rt, &&boxes, &owned);
 }
 
-fn in_counted_nodes<'a, D: DocPlace<'a, Doc = T>, T: DocPtr<'a> + fmt::Debug>(
-    rt: &impl Abort,
-    place: &'a D,
-) {
+fn in_counted_nodes<'a, D: DocPlace<'a>>(rt: &impl Abort, place: &'a D)
+where
+    D::Doc: fmt::Debug,
+{
     all(rt, place);
     pointers::taken(rt, place);
     deep::chains(rt, place);
-    deep::shared(rt, place);
+    deep::doubled(rt, place);
 }
 
 #[test]
@@ -124,16 +102,9 @@ fn in_arena<'a>(rt: &impl Abort, arena: &'a Arena<'a>) {
     assert!(rt; arena.len() == placed.saturating_add(1) && !arena.is_empty());
 }
 
-fn in_new_arena(rt: &impl Abort, memory: Global, bump: &Bump) {
-    let arena = Arena::new(memory, bump);
-    in_arena(rt, &arena);
-}
-
-// A bump that is reset takes the nodes of another arena.
 #[test]
 fn arenas(rt: HostRuntime) {
-    let mut bump = Bump::new(rt.alloc());
-    in_new_arena(&rt, rt.alloc(), &bump);
-    bump.reset().expect(&rt, "memory was refused");
-    in_new_arena(&rt, rt.alloc(), &bump);
+    let bump = Bump::new(rt.alloc());
+    let arena = Arena::new(rt.alloc(), &bump);
+    in_arena(&rt, &arena);
 }

@@ -1,20 +1,15 @@
 //! The constructors of pointers, and pointers as operands.
-use crate::expected::{compare, rows, shows};
+use crate::expected::{compare, points, rows, shows};
 use prettyless::prelude::*;
-use prettyless::text::{BuildError, CowStr};
+use prettyless::text::CowStr;
 use prettyless::{BoxDoc, BuildDoc, ColumnTest, Doc, DocBuilder, DocPtr, NestingTest, RcDoc};
 use std::fmt;
 use std::process::Abort;
 
-// Compares what a placed document is shown as.
-pub(crate) fn points<'a, D: DocPlace<'a, Doc = T>, T: DocPtr<'a> + fmt::Debug>(
-    rt: &impl Abort,
-    place: &'a D,
-    placed: Result<T, BuildError>,
-    text: &str,
-) {
-    let pointer = placed.expect(rt, "a document was not placed");
-    compare(rt, place.memory(), &pointer, text);
+fn line<'a, D: DocPlace<'a>>(rt: &impl Abort, place: &'a D) -> D::Doc {
+    place
+        .alloc(Doc::WeakLine)
+        .expect(rt, "a node was not placed")
 }
 
 pub(crate) fn leaves<'a, D: DocPlace<'a, Doc = T>, T: DocPtr<'a> + fmt::Debug>(
@@ -30,14 +25,6 @@ pub(crate) fn leaves<'a, D: DocPlace<'a, Doc = T>, T: DocPtr<'a> + fmt::Debug>(
         T::space(place) => "\" \"";
         T::weak_space(place) => "WeakSpace";
         T::expand_parent(place) => "ExpandParent";
-    }
-}
-
-pub(crate) fn lines<'a, D: DocPlace<'a, Doc = T>, T: DocPtr<'a> + fmt::Debug>(
-    rt: &impl Abort,
-    place: &'a D,
-) {
-    rows! { points, rt, place;
         T::line(place) => "LineOrSpace";
         T::line_(place) => "LineOrNil";
         T::softline(place) => "SoftLineOrSpace";
@@ -45,20 +32,6 @@ pub(crate) fn lines<'a, D: DocPlace<'a, Doc = T>, T: DocPtr<'a> + fmt::Debug>(
         T::text(place, CowStr::Borrowed("ab")) => "\"ab\"";
         T::as_string(place, 16) => "\"16\"";
         T::multiline_text(place, CowStr::Borrowed("a\nb")) => "MultilineText(\"a\\nb\")";
-    }
-}
-
-fn line<'a, D: DocPlace<'a>>(rt: &impl Abort, place: &'a D) -> D::Doc {
-    place
-        .alloc(Doc::WeakLine)
-        .expect(rt, "a node was not placed")
-}
-
-pub(crate) fn wrappers<'a, D: DocPlace<'a, Doc = T>, T: DocPtr<'a> + fmt::Debug>(
-    rt: &impl Abort,
-    place: &'a D,
-) {
-    rows! { points, rt, place;
         line(rt, place).group(place) => "Group(WeakLine)";
         line(rt, place).nest(place, 2) => "Nest(2, WeakLine)";
         line(rt, place).union(place, BuildDoc::Doc(Doc::Fail)) => "Union(WeakLine, Fail)";
@@ -112,17 +85,15 @@ pub(crate) fn taken<'a, D: DocPlace<'a>>(rt: &impl Abort, place: &'a D) {
 #[test]
 fn boxes_are_cloned(rt: HostRuntime) {
     let line = BoxDoc::new(rt.alloc(), Doc::HardLine).expect(&rt, "a node was not placed");
-    let copy = line.clone(rt.alloc());
+    let copy = line.clone(rt.alloc()).expect(&rt, "a node was not copied");
     drop(line);
-    let copy = copy.expect(&rt, "a node was not copied");
     compare(&rt, rt.alloc(), &copy, "HardLine");
 }
 
 #[test]
 fn counted_nodes_are_cloned(rt: HostRuntime) {
     let line = RcDoc::new(rt.alloc(), Doc::HardLine).expect(&rt, "a node was not placed");
-    let copy = line.clone();
+    let copy = line.clone().expect(&rt, "a node was not copied");
     drop(line);
-    let copy = copy.expect(&rt, "a node was not copied");
     compare(&rt, rt.alloc(), &copy, "HardLine");
 }

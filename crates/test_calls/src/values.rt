@@ -1,5 +1,5 @@
 //! What can become a document.
-use crate::expected::{Failing, refuses, rows, shows};
+use crate::expected::{failing, refuses, rows, shows};
 use prettyless::docs;
 use prettyless::prelude::*;
 use prettyless::text::{BuildError, CowStr};
@@ -25,26 +25,17 @@ pub(crate) fn several<'a, D: DocPlace<'a>, P: Pretty<'a, D> + Copy>(
     a: P,
     b: P,
 ) {
+    // As many fields as a tuple may have.
+    let most = (a, b, a, b, a, b, a, b, a, b, a, b, a, b, a, b);
     rows! { shows, rt, place;
         Some(a).pretty(place) => "\"a\"";
         None::<P>.pretty(place) => "Nil";
         ().pretty(place) => "Nil";
         (a, b).pretty(place) => "[\"a\", \"b\"]";
+        most.pretty(place) => "[\"a\", \"b\", \"a\", \"b\", \"a\", \"b\", \"a\", \"b\", \
+            \"a\", \"b\", \"a\", \"b\", \"a\", \"b\", \"a\", \"b\"]";
         [a, b].pretty(place) => "[\"a\", \"b\"]";
     }
-}
-
-// As many fields as a tuple may have.
-pub(crate) fn longest<'a, D: DocPlace<'a>, P: Pretty<'a, D> + Copy>(
-    rt: &impl Abort,
-    place: &'a D,
-    a: P,
-    b: P,
-) {
-    let all = (a, b, a, b, a, b, a, b, a, b, a, b, a, b, a, b);
-    let shown = "[\"a\", \"b\", \"a\", \"b\", \"a\", \"b\", \"a\", \"b\", \
-                 \"a\", \"b\", \"a\", \"b\", \"a\", \"b\", \"a\", \"b\"]";
-    shows(rt, place, all.pretty(place), shown);
 }
 
 // The value, and a note that it was asked for.
@@ -71,7 +62,7 @@ pub(crate) fn macros<'a, D: DocPlace<'a>, P: Pretty<'a, D> + Copy>(
     b: P,
 ) {
     let asked = Cell::new(false);
-    refuses(rt, around(place, a, as_string(Failing), &asked));
+    refuses(rt, around(place, a, as_string(failing()), &asked));
     assert!(rt; !asked.get());
     shows(
         rt,

@@ -2,16 +2,10 @@
 #![tactic(auto)]
 
 #[cfg(test)]
-mod answers;
-#[cfg(test)]
 mod areas;
 #[cfg(test)]
-mod faults;
+mod json_texts;
 #[cfg(test)]
-mod instructions;
+mod programs;
 #[cfg(test)]
-mod json_areas;
-#[cfg(test)]
-mod places;
-#[cfg(test)]
-mod toml_areas;
+mod toml_texts;

@@ -15,6 +15,10 @@ fn with_body<'a, D: DocPlace<'a>>(place: &'a D, body: &'a str) -> Built<'a, D> {
     with(joined(text(place, "head"), place.hard_line()), body)
 }
 
+fn remarked<'a, D: DocPlace<'a>>(place: &'a D) -> Built<'a, D> {
+    joined(text(place, "long"), place.line_suffix(" // why"))
+}
+
 fn hung<'a, D: DocPlace<'a>>(place: &'a D) -> Built<'a, D> {
     place.if_column(ColumnTest::IsNesting, "  f(x)", "f(x)")
 }
@@ -23,34 +27,19 @@ fn comma<'a, D: DocPlace<'a>>(place: &'a D) -> Built<'a, D> {
     place.if_column(ColumnTest::AtMost(3), ",", "")
 }
 
-fn unions<'a, D: DocPlace<'a>>(rt: &impl Abort, place: &'a D) {
+pub(crate) fn all<'a, D: DocPlace<'a>>(rt: &impl Abort, place: &'a D) {
     layouts! { rt;
         either(with_body(place, "long body"), with_body(place, "body"))
             => 9: "head\nlong body", 8: "head\nbody";
         by_first_line(with_body(place, "long body"), with_body(place, "body"))
             => 4: "head\nlong body", 3: "head\nbody";
-    }
-}
-
-fn rejections<'a, D: DocPlace<'a>>(rt: &impl Abort, place: &'a D) {
-    let long = joined(text(place, "long"), place.line_suffix(" // why"));
-    let flat_only = joined(pair(place, "a", "b"), if_broken(place.fail()));
-    layouts! { rt;
-        joined(text(place, "a "), either(long, text(place, "b"))) => 6: "a long // why", 5: "a b";
-        either(grouped(flat_only), text(place, "c")) => 3: "a b", 2: "c";
-    }
-}
-
-fn choices<'a, D: DocPlace<'a>>(rt: &impl Abort, place: &'a D) {
-    layouts! { rt;
+        // What a rejected document puts off is not there, and a document that fails is rejected.
+        joined(text(place, "a "), either(remarked(place), text(place, "b"))) => 6: "a long // why", 5: "a b";
+        either(grouped(joined(pair(place, "a", "b"), if_broken(place.fail()))), text(place, "c"))
+            => 3: "a b", 2: "c";
+        // Choices by the column.
         joined(joined(text(place, "let y ="), place.softline()), hung(place))
             => 12: "let y = f(x)", 11: "let y =\n  f(x)";
         call(place, joined(pair(place, "a,", "b"), comma(place))) => 7: "f(a, b)", 6: "f(\na,\nb,\n)";
     }
-}
-
-pub(crate) fn all<'a, D: DocPlace<'a>>(rt: &impl Abort, place: &'a D) {
-    unions(rt, place);
-    rejections(rt, place);
-    choices(rt, place);
 }

@@ -1,5 +1,5 @@
 //! The chapters of the guide, in boxes.
-use crate::{alternatives, errors, indents, line_ends, lines, lists, own, rendering};
+use crate::{alternatives, errors, indents, line_ends, lines, lists, own, rendering, shapes};
 use prettyless::{BoxAllocator, DocPlace};
 use std::process::Abort;
 use std::test::Fail;
@@ -12,6 +12,7 @@ fn chapters<'a, D: DocPlace<'a>>(rt: &impl Abort, place: &'a D) -> Result<(), Fa
     own::own_types_become_documents(rt, place);
     line_ends::all(rt, place);
     alternatives::all(rt, place);
+    shapes::all(rt, place);
     rendering::all(rt, place)
 }
 

@@ -5,15 +5,11 @@ use std::alloc::{AllocError, Global};
 use std::mem;
 use std::test::Fail;
 
-fn setting(
-    alloc: Global,
-    name: &str,
-    value: &str,
-    remark: Option<&str>,
-) -> Result<Entry, AllocError> {
-    let remark = match remark {
-        Some(remark) => Some(String::from_str(alloc, remark)?),
-        None => None,
+fn setting(alloc: Global, name: &str, value: &str, remark: &str) -> Result<Entry, AllocError> {
+    let remark = if remark.is_empty() {
+        None
+    } else {
+        Some(String::from_str(alloc, remark)?)
     };
     Ok(Entry::Setting(Setting {
         name: String::from_str(alloc, name)?,
@@ -41,7 +37,7 @@ fn read_word(alloc: Global, at: &mut Reading, word: &str) -> Result<(), AllocErr
             at.entries.push(Entry::Block(name, entries))?;
         }
     } else if let Some(value) = word.strip_suffix(";") {
-        let entry = setting(alloc, at.name.as_str(), value, None)?;
+        let entry = setting(alloc, at.name.as_str(), value, "")?;
         at.entries.push(entry)?;
     } else if word != "=" {
         at.name = String::from_str(alloc, word)?;
@@ -53,7 +49,7 @@ fn read_remark(alloc: Global, at: &mut Reading, remark: &str) -> Result<(), Allo
     let remark = format!(in alloc; "# {remark}")?;
     if let Some(Entry::Setting(last)) = at.entries.pop() {
         let (name, value) = (last.name.as_str(), last.value.as_str());
-        let entry = setting(alloc, name, value, Some(remark.as_str()))?;
+        let entry = setting(alloc, name, value, remark.as_str())?;
         at.entries.push(entry)?;
     }
     Ok(())
@@ -81,10 +77,10 @@ fn read(alloc: Global, layout: &str) -> Result<Vec<Entry>, AllocError> {
 /// A setting, and a block of two more.
 fn entries(alloc: Global) -> Result<Vec<Entry>, AllocError> {
     let mut inner = Vec::new(alloc);
-    inner.push(setting(alloc, "port", "80", Some("# plain"))?)?;
-    inner.push(setting(alloc, "host", "example.org", None)?)?;
+    inner.push(setting(alloc, "port", "80", "# plain")?)?;
+    inner.push(setting(alloc, "host", "example.org", "")?)?;
     let mut entries = Vec::new(alloc);
-    entries.push(setting(alloc, "user", "www", Some("# not root"))?)?;
+    entries.push(setting(alloc, "user", "www", "# not root")?)?;
     entries.push(Entry::Block(String::from_str(alloc, "server")?, inner))?;
     Ok(entries)
 }

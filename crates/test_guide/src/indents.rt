@@ -23,13 +23,10 @@ fn directive<'a, D: DocPlace<'a>>(place: &'a D) -> Built<'a, D> {
 }
 
 fn payload<'a, D: DocPlace<'a>>(place: &'a D) -> Built<'a, D> {
-    joined(
-        place.line(),
-        place.multiline_text(CowStr::Borrowed("'one\ntwo'")),
-    )
+    place.multiline_text(CowStr::Borrowed("'one\ntwo'"))
 }
 
-fn moved<'a, D: DocPlace<'a>>(rt: &impl Abort, place: &'a D) {
+pub(crate) fn all<'a, D: DocPlace<'a>>(rt: &impl Abort, place: &'a D) {
     layouts! { rt;
         grouped(then(nested(pair(place, "begin", "body"), 2), "end"))
             => 14: "begin body end", 13: "begin\n  body\nend";
@@ -37,19 +34,9 @@ fn moved<'a, D: DocPlace<'a>>(rt: &impl Abort, place: &'a D) {
         // A line break outside of the nest.
         joined(joined(text(place, "a"), place.hard_line()), nested(text(place, "b"), 2))
             => 80: "a\nb", 0: "a\nb";
-    }
-}
-
-fn placed<'a, D: DocPlace<'a>>(rt: &impl Abort, place: &'a D) {
-    layouts! { rt;
         joined(text(place, "sum = "), aligned(place)) => 15: "sum = one + two", 14: "sum = one\n      + two";
         block(place, directive(place)) => 80: "{\n    a;\n#if\n    c;", 0: "{\n    a;\n#if\n    c;";
-        grouped(joined(text(place, "s ="), nested(payload(place), 2)))
+        grouped(joined(text(place, "s ="), nested(joined(place.line(), payload(place)), 2)))
             => 80: "s =\n  'one\ntwo'", 0: "s =\n  'one\ntwo'";
     }
-}
-
-pub(crate) fn all<'a, D: DocPlace<'a>>(rt: &impl Abort, place: &'a D) {
-    moved(rt, place);
-    placed(rt, place);
 }

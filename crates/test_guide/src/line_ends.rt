@@ -14,27 +14,18 @@ fn statement<'a, D: DocPlace<'a>>(place: &'a D) -> Built<'a, D> {
     with(joined(text(place, "a"), place.weak_space()), "b;")
 }
 
-fn weak<'a, D: DocPlace<'a>>(rt: &impl Abort, place: &'a D) {
-    let first = joined(text(place, "b;"), place.hard_line());
+pub(crate) fn all<'a, D: DocPlace<'a>>(rt: &impl Abort, place: &'a D) {
     layouts! { rt;
         joined(statement(place), place.weak_space()) => 80: "a b;", 0: "a b;";
         // A weak line after another, and one in a group.
-        with(joined(first, place.weak_line()), "c;") => 80: "b;\nc;", 0: "b;\nc;";
+        with(joined(joined(text(place, "b;"), place.hard_line()), place.weak_line()), "c;")
+            => 80: "b;\nc;", 0: "b;\nc;";
         grouped(with(joined(pair(place, "a", "b"), place.weak_line()), "c")) => 80: "a\nb\nc", 0: "a\nb\nc";
-    }
-}
-
-fn suffixes<'a, D: DocPlace<'a>>(rt: &impl Abort, place: &'a D) {
-    let remarked = joined(text(place, "a"), place.line_suffix(" // why"));
-    let spaced = joined(text(place, "a;"), place.weak_space());
-    layouts! { rt;
-        grouped(joined(remarked, pair(place, ",", "b"))) => 4: "a, b // why", 3: "a, // why\nb";
+        // What waits for the end of its line.
+        grouped(joined(joined(text(place, "a"), place.line_suffix(" // why")), pair(place, ",", "b")))
+            => 4: "a, b // why", 3: "a, // why\nb";
         joined(text(place, "a;"), put_off(place)) => 80: "a; // 1", 0: "a; // 1";
-        joined(spaced, place.line_suffix("// why")) => 80: "a; // why", 0: "a; // why";
+        joined(joined(text(place, "a;"), place.weak_space()), place.line_suffix("// why"))
+            => 80: "a; // why", 0: "a; // why";
     }
-}
-
-pub(crate) fn all<'a, D: DocPlace<'a>>(rt: &impl Abort, place: &'a D) {
-    weak(rt, place);
-    suffixes(rt, place);
 }

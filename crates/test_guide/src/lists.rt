@@ -46,40 +46,21 @@ fn if_flat<'a, D: DocPlace<'a>>(document: Built<'a, D>) -> Built<'a, D> {
     document?.when_group_flat()
 }
 
-fn appended<'a, D: DocPlace<'a>>(rt: &impl Abort, place: &'a D) {
+pub(crate) fn all<'a, D: DocPlace<'a>>(rt: &impl Abort, place: &'a D) {
     layouts! { rt;
         in_parentheses(place) => 5: "(a b)", 4: "(a\nb)";
         grouped(joined(lined(text(place, "a,")), text(place, "b;"))) => 5: "a, b;", 4: "a,\nb;";
         enclosed(place) => 80: "f(\"x\")", 0: "f(\"x\")";
-    }
-}
-
-fn fillings<'a, D: DocPlace<'a>>(rt: &impl Abort, place: &'a D) {
-    layouts! { rt;
+        // Lines that are filled.
         filled(place, filled(place, text(place, "aa"), "bb"), "cc") => 7: "aa bb\ncc", 4: "aa\nbb\ncc";
         place.reflow("aa bb cc") => 7: "aa bb\ncc", 4: "aa\nbb\ncc";
         copies(place) => 3: "===", 2: "==\n=";
-    }
-}
-
-fn items<'a, D: DocPlace<'a>>(rt: &impl Abort, place: &'a D) {
-    layouts! { rt;
+        // Items.
         place.pretty(concat(["a", "b", "c"])) => 80: "abc", 0: "abc";
         grouped(separated(place)) => 5: "1 2 3", 4: "1\n2\n3";
         call(place, with_comma(place)) => 7: "f(a, b)", 6: "f(\na,\nb,\n)";
-    }
-}
-
-fn ends<'a, D: DocPlace<'a>>(rt: &impl Abort, place: &'a D) {
-    layouts! { rt;
+        // What is only in flat lines, and only in broken ones, by calls of a place and of builders.
         ended(place, place.if_group_flat(";"), place.if_group_break(",")) => 4: "a b;", 3: "a\nb,";
         ended(place, if_flat(text(place, ";")), if_broken(text(place, ","))) => 4: "a b;", 3: "a\nb,";
     }
-}
-
-pub(crate) fn all<'a, D: DocPlace<'a>>(rt: &impl Abort, place: &'a D) {
-    appended(rt, place);
-    fillings(rt, place);
-    items(rt, place);
-    ends(rt, place);
 }

@@ -1,24 +1,17 @@
 //! Shapes that formatters give to documents, where they fit their line and where they do not.
-use crate::layouts::compare_doc;
+use crate::layouts::layouts;
+use crate::parts::Built;
 use prettyless::text::BuildError;
-use prettyless::{BoxAllocator, DocPlace, DocPtr};
+use prettyless::{DocBuilder, DocPlace};
 use prettyless_shapes::{
     ListStyle, block, broken, ended, grouped, hanging, indented, joined, lined, list, nil, spaced,
     stacked, stacked_all, text, with_late_remark, with_remark,
 };
 use std::process::Abort;
 
-// Compares what a document is laid out as at two widths.
-fn compare<'a, D: DocPlace<'a>>(
-    rt: &impl Abort,
-    place: &'a D,
-    doc: Result<D::Doc, BuildError>,
-    layouts: &[(usize, &str)],
-) {
-    let Ok(doc) = doc else {
-        panic!(rt; "not built")
-    };
-    compare_doc(rt, place.memory(), doc.doc(), layouts);
+// A document that is placed.
+fn built<'a, D: DocPlace<'a>>(place: &'a D, doc: Result<D::Doc, BuildError>) -> Built<'a, D> {
+    Ok(DocBuilder::from_doc(place, doc?))
 }
 
 fn side_by_side<'a, D: DocPlace<'a>>(place: &'a D) -> Result<D::Doc, BuildError> {
@@ -87,72 +80,33 @@ fn no_member<'a, D: DocPlace<'a>>(place: &'a D) -> Result<D::Doc, BuildError> {
     list(place, "[", docs, ",", "]", ListStyle::new(2))
 }
 
-const PLAIN: ListStyle = ListStyle {
-    indent: 2,
-    padded: false,
-    trailing: false,
-    filled: false,
-};
+#[rattlefmt::skip]
+const PLAIN: ListStyle = ListStyle { indent: 2, padded: false, trailing: false, filled: false };
 
-const PADDED: ListStyle = ListStyle {
-    padded: true,
-    ..PLAIN
-};
+#[rattlefmt::skip]
+const PADDED: ListStyle = ListStyle { padded: true, ..PLAIN };
 
-const TRAILING: ListStyle = ListStyle {
-    trailing: true,
-    ..PLAIN
-};
+#[rattlefmt::skip]
+const TRAILING: ListStyle = ListStyle { trailing: true, ..PLAIN };
 
-const FILLED: ListStyle = ListStyle {
-    filled: true,
-    ..TRAILING
-};
+#[rattlefmt::skip]
+const FILLED: ListStyle = ListStyle { filled: true, ..TRAILING };
 
-// Documents in this place, each with its layouts: `DOCUMENT => WIDTH: LAYOUT, ..;`.
-macro_rules! layouts {
-    ($rt:ident, $place:ident; $($document:expr => $($width:literal: $layout:literal),+;)+) => {
-        $(compare($rt, $place, $document, &[$(($width, $layout)),+]);)+
-    };
-}
-
-fn gaps<'a, D: DocPlace<'a>>(rt: &impl Abort, place: &'a D) {
-    layouts! { rt, place;
-        side_by_side(place) => 2: "ab", 0: "ab";
-        with_space(place) => 3: "a b", 0: "a b";
-        on_two_lines(place) => 80: "a\nb\n", 0: "a\nb\n";
-        further_in(place) => 3: "a b", 2: "a\n  b";
-        never_flat(place) => 80: "a\nb", 0: "a\nb";
+pub(crate) fn all<'a, D: DocPlace<'a>>(rt: &impl Abort, place: &'a D) {
+    layouts! { rt;
+        built(place, side_by_side(place)) => 2: "ab", 0: "ab";
+        built(place, with_space(place)) => 3: "a b", 0: "a b";
+        built(place, on_two_lines(place)) => 80: "a\nb\n", 0: "a\nb\n";
+        built(place, further_in(place)) => 3: "a b", 2: "a\n  b";
+        built(place, never_flat(place)) => 80: "a\nb", 0: "a\nb";
+        built(place, assignment(place)) => 11: "key = value", 10: "key =\n  value";
+        built(place, braces(place)) => 80: "{\n  a\n  b\n  c\n}", 0: "{\n  a\n  b\n  c\n}";
+        built(place, remarked(place)) => 80: "a # why\n,", 0: "a # why\n,";
+        built(place, brackets(place, PLAIN)) => 9: "[a, b, c]", 8: "[\n  a,\n  b,\n  c\n]";
+        built(place, brackets(place, PADDED)) => 11: "[ a, b, c ]", 10: "[\n  a,\n  b,\n  c\n]";
+        built(place, brackets(place, TRAILING)) => 9: "[a, b, c]", 8: "[\n  a,\n  b,\n  c,\n]";
+        built(place, brackets(place, FILLED)) => 9: "[a, b, c]", 8: "[\n  a, b,\n  c,\n]";
+        built(place, late_remarked(place)) => 80: "[\n  a, # why\n  b\n]", 0: "[\n  a, # why\n  b\n]";
+        built(place, no_member(place)) => 2: "[]", 0: "[]";
     }
-}
-
-fn blocks<'a, D: DocPlace<'a>>(rt: &impl Abort, place: &'a D) {
-    layouts! { rt, place;
-        assignment(place) => 11: "key = value", 10: "key =\n  value";
-        braces(place) => 80: "{\n  a\n  b\n  c\n}", 0: "{\n  a\n  b\n  c\n}";
-        remarked(place) => 80: "a # why\n,", 0: "a # why\n,";
-    }
-}
-
-fn lists<'a, D: DocPlace<'a>>(rt: &impl Abort, place: &'a D) {
-    layouts! { rt, place;
-        brackets(place, PLAIN) => 9: "[a, b, c]", 8: "[\n  a,\n  b,\n  c\n]";
-        brackets(place, PADDED) => 11: "[ a, b, c ]", 10: "[\n  a,\n  b,\n  c\n]";
-        brackets(place, TRAILING) => 9: "[a, b, c]", 8: "[\n  a,\n  b,\n  c,\n]";
-        brackets(place, FILLED) => 9: "[a, b, c]", 8: "[\n  a, b,\n  c,\n]";
-        late_remarked(place) => 80: "[\n  a, # why\n  b\n]", 0: "[\n  a, # why\n  b\n]";
-        no_member(place) => 2: "[]", 0: "[]";
-    }
-}
-
-fn all<'a, D: DocPlace<'a>>(rt: &impl Abort, place: &'a D) {
-    gaps(rt, place);
-    blocks(rt, place);
-    lists(rt, place);
-}
-
-#[test]
-fn shapes_of_the_guide(rt: HostRuntime) {
-    let boxes = BoxAllocator::new(rt.alloc());
-    all(&rt, &boxes);
 }

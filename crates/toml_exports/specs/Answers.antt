@@ -1,13 +1,13 @@
 -- What a call for the layout of a TOML text answers, for each status.
 use Rattle.std.specs.Prelude.{◌≡◌, ◌≤◌, ◌<◌, ◌⊎◌, ℕ, List, length, take, codes, true, false}
 use Rattle.std.specs.Str.{IsUtf8}
-use Rattle.formatter_files.specs.Places.{IsPlaceWithin}
+use Rattle.text_places.specs.Places.{IsPlaceWithin}
 use Rattle.prettyless_area.specs.Overlay.{overlay}
 use Rattle.prettyless_exports.specs.Answers.{Holds, IsUntouched}
 use Rattle.toml_formatter.specs.Formats.{IsFormattedToml}
 use Rattle.toml_grammar.specs.Grammar.{is_toml}
-use Rattle.tomlfmt_request.specs.Refusals.{NamesFault, nesting}
-use Rattle.tomlfmt_request.specs.declared.refusal.Refusal.{Refusal}
+use Rattle.toml_grammar.specs.Refusals.{NamesFault, nesting}
+use Rattle.toml_grammar.specs.declared.refusal.Refusal.{Refusal}
 
 -- So far into the text it is TOML, or not too deep: there something else was expected, whose name is in the area.
 pub record IsTomlFault (text old new : List ℕ) (written line column : ℕ) : Type 0 where

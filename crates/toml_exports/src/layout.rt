@@ -9,7 +9,7 @@ use prettyless_exports::text::{put_name, put_text};
 use std::alloc::Global;
 use std::str::from_utf8;
 use toml_formatter::{FormatError, Style, formatted};
-use tomlfmt_request::refusal::refusal_of;
+use toml_grammar::refusal_of;
 
 /// Lays out a text, if it is TOML.
 fn text_laid(

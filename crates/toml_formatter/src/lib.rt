@@ -16,5 +16,5 @@ mod trim;
 
 pub use error::FormatError;
 pub use layout::formatted;
-pub use statement::MAX_DEPTH;
 pub use style::Style;
+pub use toml_grammar::MAX_DEPTH;

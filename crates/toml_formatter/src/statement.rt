@@ -15,10 +15,8 @@ use crate::list::{Setting, value};
 use crate::trim::trimmed;
 use prettyless::RefDoc;
 use prettyless_shapes::{joined, text};
+use toml_grammar::MAX_DEPTH;
 use toml_lexemes::Lexeme;
-
-/// How many brackets may be in one another.
-pub const MAX_DEPTH: usize = 128;
 
 /// The line with a bracket that closes nothing taken. Reading drops a comma before it.
 fn with_closing<'a>(

@@ -3,4 +3,5 @@ pub mod Grammar
 pub mod Expected
 pub mod Readings
 pub mod Faults
+pub mod Refusals
 pub mod Laws

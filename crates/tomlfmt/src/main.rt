@@ -21,8 +21,8 @@ use std::process::ExitCode;
 use std::rt::Env;
 use std::str::from_utf8;
 use toml_formatter::{FormatError, Style, formatted};
+use toml_grammar::{Found, refusal_of};
 use toml_lexemes::Lexeme;
-use tomlfmt_request::refusal::{Found, refusal_of};
 use tomlfmt_request::request::requested;
 
 // Says what stands there. It leaves the line open.

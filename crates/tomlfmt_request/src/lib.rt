@@ -1,6 +1,4 @@
-//! What the words of `tomlfmt` ask for, and why a text is refused.
+//! What the words of `tomlfmt` ask for.
 #![tactic(auto)]
 
-mod nesting;
-pub mod refusal;
 pub mod request;

@@ -1,0 +1,118 @@
+//! Layouts of JSON texts into an area of fifteen bytes.
+use crate::areas::{Answer, compare_answers};
+use json_exports::layout::json_layout;
+use std::alloc::{AllocError, Global};
+use std::process::Abort;
+use std::test::Fail;
+
+#[derive(Clone, Copy)]
+struct Options {
+    width: usize,
+    indent: u32,
+    fill: bool,
+    limit: usize,
+}
+
+#[rattlefmt::skip]
+const PLAIN: Options = Options { width: 80, indent: 2, fill: false, limit: 0 };
+
+#[rattlefmt::skip]
+const NARROW: Options = Options { width: 7, indent: 1, ..PLAIN };
+
+// Options, a text, the number of the status, how many bytes are written, what the area holds, and a line and a column.
+type Row<'a> = (Options, &'a [u8], u32, usize, &'a str, (usize, usize));
+
+// The limit is for layouts alone.
+#[rattlefmt::skip]
+const ROWS: &[Row<'static>] = &[
+    // Layouts that leave some of the area, fill it, and are longer.
+    (PLAIN, b" [1 ,2]", 0, 7, "[1, 2]\n........", (0, 0)),
+    (PLAIN, b"[1,2,3,456]", 0, 15, "[1, 2, 3, 456]\n", (0, 0)),
+    (PLAIN, b"[1,2,3,4,5]", 1, 16, "[1, 2, 3, 4, 5]", (0, 0)),
+    // Each option.
+    (NARROW, b"[1,2,3]", 0, 15, "[\n 1,\n 2,\n 3\n]\n", (0, 0)),
+    (Options { indent: 2, ..NARROW }, b"[1,2,3]", 1, 18, "[\n  1,\n  2,\n  3", (0, 0)),
+    (Options { fill: true, ..NARROW }, b"[1,2,3]", 0, 14, "[\n 1, 2,\n 3\n]\n.", (0, 0)),
+    (Options { limit: 10, ..PLAIN }, b"[1,2,3]", 0, 10, "[1, 2, 3]\n.....", (0, 0)),
+    (Options { limit: 3, ..PLAIN }, b"[1,2,3]", 4, 3, "[1,............", (0, 0)),
+    // What was expected, at a line and a column of characters. A name may be longer than the area.
+    (Options { limit: 1, ..PLAIN }, b"", 5, 7, "a value........", (1, 1)),
+    (PLAIN, b"[\n1 2]", 5, 10, "`,` or `]`.....", (2, 3)),
+    (PLAIN, b"{\"\xC3\xA9\",1}", 5, 3, "`:`............", (1, 5)),
+    (PLAIN, b"[\"\xFF\"]", 5, 5, "UTF-8..........", (1, 3)),
+    (PLAIN, b"1,2", 5, 15, "the end of the ", (1, 2)),
+];
+
+fn compare(
+    rt: &impl Abort,
+    memory: Global,
+    (options, text, status, written, held, place): Row<'_>,
+) {
+    let Options {
+        width,
+        indent,
+        fill,
+        limit,
+    } = options;
+    let mut out = *b"...............";
+    let (mut count, mut line, mut column) = (99, 99, 99);
+    let found = json_layout(
+        memory,
+        text,
+        width,
+        indent,
+        fill,
+        limit,
+        &mut out,
+        &mut count,
+        &mut line,
+        &mut column,
+    );
+    let answer = Answer::new(found, count, &out, (line, column));
+    let wanted = Answer::new(status, written, held.as_bytes(), place);
+    compare_answers(rt, text, answer, wanted);
+}
+
+#[test]
+fn layouts_are_put_into_the_area(rt: HostRuntime) {
+    for &row in ROWS {
+        compare(&rt, rt.alloc(), row);
+    }
+}
+
+fn push_times(out: &mut String, text: &str, times: usize) -> Result<(), AllocError> {
+    for _ in 0..times {
+        out.push_str(text)?;
+    }
+    Ok(())
+}
+
+// So many arrays, one inside the other.
+fn arrays(memory: Global, count: usize) -> Result<String, AllocError> {
+    let mut text = String::new(memory);
+    push_times(&mut text, "[", count)?;
+    push_times(&mut text, "]", count)?;
+    Ok(text)
+}
+
+// Each bracket but the innermost two has a line of its own: the layout of n arrays has 2 * n * n + 1 bytes, for 100,000 of
+// them 20 GB.
+#[rattlefmt::skip]
+const DEEP: &[(usize, usize, u32, usize)] = &[
+    (1000, 0, 1, 2_000_001),
+    (1000, 2_000_001, 1, 2_000_001),
+    (1000, 2_000_000, 4, 15),
+    (100_000, 1000, 4, 15),
+];
+
+#[test]
+fn deep_layouts_are_counted_as_far_as_the_limit(rt: HostRuntime) -> Result<(), Fail> {
+    let begun = "[\n  [\n    [\n   ";
+    for &(count, limit, status, written) in DEEP {
+        let text = arrays(rt.alloc(), count)?;
+        let options = Options { limit, ..PLAIN };
+        let row = (options, text.as_bytes(), status, written, begun, (0, 0));
+        compare(&rt, rt.alloc(), row);
+    }
+    Ok(())
+}
