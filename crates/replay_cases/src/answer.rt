@@ -1,9 +1,3 @@
-ghost use Rattle.std.specs.Prelude.{◌≡◌, ◌∷◌, ◌++◌, [], IfOk};
-ghost use Rattle.std.specs.String.{string_bytes};
-ghost use Rattle.prettyless_sink.specs.Sink.{IfKnown};
-ghost use Rattle.replay_cases.specs.Answers.{is_skipped, IsAnswer, WritesAnswer, AnswersLine};
-ghost use Rattle.replay_cases.specs.Refusals.{complaint};
-
 use crate::expected::Expected;
 use crate::outcome::Times;
 use crate::refusal::Refusal;
@@ -12,16 +6,12 @@ use prettyless::Render;
 use std::alloc::{AllocError, Global};
 
 // The line is empty, or a comment.
-fn is_skipped(line: &[u8]) -> bool
-    ensures { result ≡ is_skipped line.now }
-{
+fn is_skipped(line: &[u8]) -> bool {
     matches!(line, [] | [b'#', ..])
 }
 
 // What is said of the line of this number, which is no case.
-fn complaint(alloc: Global, number: u64, expected: Expected) -> Result<String, AllocError>
-    ensures { IfOk result (λ text. string_bytes text ≡ complaint number expected) }
-{
+fn complaint(alloc: Global, number: u64, expected: Expected) -> Result<String, AllocError> {
     let mut text = String::from_str(alloc, "error line ")?;
     text.push_str(number.to_string(alloc)?.as_str())?;
     text.push_str(": expected ")?;
@@ -30,9 +20,12 @@ fn complaint(alloc: Global, number: u64, expected: Expected) -> Result<String, A
 }
 
 // The answer to the line of this number, where memory suffices.
-fn answer_text(alloc: Global, times: Times, number: u64, line: &[u8]) -> Result<String, AllocError>
-    ensures { IfOk result (λ text. IsAnswer number line.now (string_bytes text)) }
-{
+fn answer_text(
+    alloc: Global,
+    times: Times,
+    number: u64,
+    line: &[u8],
+) -> Result<String, AllocError> {
     match replayed(alloc, times, line) {
         Ok(outcome) => Ok(outcome),
         Err(Refusal::NotACase(expected)) => complaint(alloc, number, expected),
@@ -40,10 +33,7 @@ fn answer_text(alloc: Global, times: Times, number: u64, line: &[u8]) -> Result<
     }
 }
 
-fn write_line<S: Render>(out: &mut S, text: &str) -> Result<(), S::Error>
-    ensures { IfKnown (S.bytes out.old) (S.bytes out.new) (λ before after.
-        WritesAnswer (text.now ++ 10 ∷ []) before after (S.failures out.old) (S.failures out.new) result) }
-{
+fn write_line<S: Render>(out: &mut S, text: &str) -> Result<(), S::Error> {
     out.write_str_all(text)?;
     out.write_str_all("\n")
 }
@@ -58,10 +48,7 @@ pub fn answer<S: Render>(
     number: u64,
     line: &[u8],
     out: &mut S,
-) -> Result<(), S::Error>
-    ensures { IfKnown (S.bytes out.old) (S.bytes out.new) (λ before after.
-        AnswersLine number line.now before after (S.failures out.old) (S.failures out.new) result) }
-{
+) -> Result<(), S::Error> {
     if is_skipped(line) {
         return Ok(());
     }

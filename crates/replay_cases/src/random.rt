@@ -1,5 +1,4 @@
 //! Cases that dice make.
-ghost use Rattle.std.specs.Prelude.{IfOk, IsNone, IsTrue};
 
 use crate::case::ReadCase;
 use crate::dice::Dice;
@@ -214,9 +213,7 @@ fn options(dice: &mut Dice) -> RenderOptions {
 }
 
 // Whether the same comes of a case, whose nodes will be here, over a table.
-fn is_same_in<'a>(place: &'a Place<'a>, dice: &mut Dice) -> Result<bool, Refusal>
-    ensures { IfOk result IsTrue }
-{
+fn is_same_in<'a>(place: &'a Place<'a>, dice: &mut Dice) -> Result<bool, Refusal> {
     let case = ReadCase {
         options: options(dice),
         document: document(place, dice)?,
@@ -226,18 +223,14 @@ fn is_same_in<'a>(place: &'a Place<'a>, dice: &mut Dice) -> Result<bool, Refusal
 }
 
 // The same. The memory of the document is given back.
-fn is_same(alloc: Global, dice: &mut Dice) -> Result<bool, Refusal>
-    ensures { IfOk result IsTrue }
-{
+fn is_same(alloc: Global, dice: &mut Dice) -> Result<bool, Refusal> {
     let bump = Bump::new(alloc);
     let place = Place::new(alloc, &bump);
     is_same_in(&place, dice)
 }
 
 /// The number of the first of so many random cases of a seed that comes out otherwise over a table of all of its nodes: there is none.
-pub fn first_other(alloc: Global, seed: usize, count: usize) -> Result<Option<usize>, AllocError>
-    ensures { IfOk result IsNone }
-{
+pub fn first_other(alloc: Global, seed: usize, count: usize) -> Result<Option<usize>, AllocError> {
     let mut dice = Dice::new(seed);
     for number in 0..count {
         match is_same(alloc, &mut dice) {

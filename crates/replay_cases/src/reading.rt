@@ -1,14 +1,3 @@
-ghost use Rattle.std.specs.Prelude.{◌≡◌, ℕ, List, map, true, IfOk, OnOk, IfErr};
-ghost use Rattle.std.specs.String.{string_bytes};
-ghost use Rattle.prettyless_doc.specs.Breaks.{holds_break};
-ghost use Rattle.prettyless.specs.TextBytes.{bytes_of_text};
-ghost use Rattle.prettyless.specs.Tree.{Tree};
-ghost use Rattle.replay_cases.specs.Notation.{IsSpelled};
-ghost use Rattle.replay_cases.specs.Pointers.{pointer_tree};
-ghost use Rattle.replay_cases.specs.Reading.{OperandItem, items_of, BeginsWithText, Makes, Steps};
-ghost use Rattle.replay_cases.specs.Refusals.{RefusesWith};
-ghost use Rattle.replay_cases.specs.declared.operator.Operator.TheVariants as operators;
-
 use crate::condition::{take_column_test, take_nesting_test};
 use crate::expected::Expected;
 use crate::hexadecimal::text;
@@ -24,22 +13,13 @@ use prettyless_doc::measure::holds_break;
 use std::alloc::Global;
 
 // Takes the text whose word comes next.
-fn take_text<'a>(alloc: Global, operands: &mut Vec<Operand<'a>>) -> Result<Text<'a>, Refusal>
-    ensures ok { IfOk result (λ s. BeginsWithText (items_of operands.old.items) (bytes_of_text s) (items_of operands.new.items)) }
-    ensures err { IfErr result (λ e. RefusesWith e ((s : List ℕ) (rest : List OperandItem)
-        → BeginsWithText (items_of operands.old.items) s rest → ⊥)) }
-{
+fn take_text<'a>(alloc: Global, operands: &mut Vec<Operand<'a>>) -> Result<Text<'a>, Refusal> {
     let text = text(alloc, take_word(operands, Expected::Text)?)?;
     Ok(Text::from_cow(alloc, CowStr::Owned(text))?)
 }
 
 // Takes the text of a payload, which holds a line break, whose word comes next.
-fn take_payload<'a>(alloc: Global, operands: &mut Vec<Operand<'a>>) -> Result<String, Refusal>
-    ensures ok { IfOk result (λ s. BeginsWithText (items_of operands.old.items) (string_bytes s) (items_of operands.new.items)) }
-    ensures breaks { IfOk result (λ s. holds_break (string_bytes s) ≡ true) }
-    ensures err { IfErr result (λ e. RefusesWith e ((d : Tree) (rest : List OperandItem)
-        → Makes operators.Payload (items_of operands.old.items) d rest → ⊥)) }
-{
+fn take_payload<'a>(alloc: Global, operands: &mut Vec<Operand<'a>>) -> Result<String, Refusal> {
     let text = text(alloc, take_word(operands, Expected::Payload)?)?;
     if holds_break(text.as_str()) {
         Ok(text)
@@ -52,11 +32,7 @@ fn take_payload<'a>(alloc: Global, operands: &mut Vec<Operand<'a>>) -> Result<St
 fn make_text<'a>(
     place: &'a Place<'a>,
     operands: &mut Vec<Operand<'a>>,
-) -> Result<Pointer<'a>, Refusal>
-    ensures ok { IfOk result (λ d. Makes operators.Text (items_of operands.old.items) (pointer_tree d) (items_of operands.new.items)) }
-    ensures err { IfErr result (λ e. RefusesWith e ((d : Tree) (rest : List OperandItem)
-        → Makes operators.Text (items_of operands.old.items) d rest → ⊥)) }
-{
+) -> Result<Pointer<'a>, Refusal> {
     let text = take_text(place.memory(), operands)?;
     put(place, Doc::Text(text))
 }
@@ -65,12 +41,7 @@ fn make_text<'a>(
 fn make_counted_text<'a>(
     place: &'a Place<'a>,
     operands: &mut Vec<Operand<'a>>,
-) -> Result<Pointer<'a>, Refusal>
-    ensures ok { IfOk result (λ d.
-        Makes operators.TextWithLen (items_of operands.old.items) (pointer_tree d) (items_of operands.new.items)) }
-    ensures err { IfErr result (λ e. RefusesWith e ((d : Tree) (rest : List OperandItem)
-        → Makes operators.TextWithLen (items_of operands.old.items) d rest → ⊥)) }
-{
+) -> Result<Pointer<'a>, Refusal> {
     let word = take_word(operands, Expected::Columns)?;
     let width = number(word).ok_or(Expected::Columns)?;
     let text = take_text(place.memory(), operands)?;
@@ -81,11 +52,7 @@ fn make_counted_text<'a>(
 fn make_payload<'a>(
     place: &'a Place<'a>,
     operands: &mut Vec<Operand<'a>>,
-) -> Result<Pointer<'a>, Refusal>
-    ensures ok { IfOk result (λ d. Makes operators.Payload (items_of operands.old.items) (pointer_tree d) (items_of operands.new.items)) }
-    ensures err { IfErr result (λ e. RefusesWith e ((d : Tree) (rest : List OperandItem)
-        → Makes operators.Payload (items_of operands.old.items) d rest → ⊥)) }
-{
+) -> Result<Pointer<'a>, Refusal> {
     let text = take_payload(place.memory(), operands)?;
     put_multiline(place, text)
 }
@@ -94,11 +61,7 @@ fn make_payload<'a>(
 fn make_nest<'a>(
     place: &'a Place<'a>,
     operands: &mut Vec<Operand<'a>>,
-) -> Result<Pointer<'a>, Refusal>
-    ensures ok { IfOk result (λ d. Makes operators.Nest (items_of operands.old.items) (pointer_tree d) (items_of operands.new.items)) }
-    ensures err { IfErr result (λ e. RefusesWith e ((d : Tree) (rest : List OperandItem)
-        → Makes operators.Nest (items_of operands.old.items) d rest → ⊥)) }
-{
+) -> Result<Pointer<'a>, Refusal> {
     let word = take_word(operands, Expected::Offset)?;
     let offset = offset(word).ok_or(Expected::Offset)?;
     let inner = take_document(operands)?;
@@ -110,12 +73,7 @@ fn make_wrapped<'a>(
     place: &'a Place<'a>,
     wrapper: Wrapper,
     operands: &mut Vec<Operand<'a>>,
-) -> Result<Pointer<'a>, Refusal>
-    ensures ok { IfOk result (λ d.
-        Makes (operators.Wrapper wrapper) (items_of operands.old.items) (pointer_tree d) (items_of operands.new.items)) }
-    ensures err { IfErr result (λ e. RefusesWith e ((d : Tree) (rest : List OperandItem)
-        → Makes (operators.Wrapper wrapper) (items_of operands.old.items) d rest → ⊥)) }
-{
+) -> Result<Pointer<'a>, Refusal> {
     let inner = take_document(operands)?;
     put(place, wrapper.doc(inner))
 }
@@ -125,12 +83,7 @@ fn make_joined<'a>(
     place: &'a Place<'a>,
     join: Join,
     operands: &mut Vec<Operand<'a>>,
-) -> Result<Pointer<'a>, Refusal>
-    ensures ok { IfOk result (λ d.
-        Makes (operators.Join join) (items_of operands.old.items) (pointer_tree d) (items_of operands.new.items)) }
-    ensures err { IfErr result (λ e. RefusesWith e ((d : Tree) (rest : List OperandItem)
-        → Makes (operators.Join join) (items_of operands.old.items) d rest → ⊥)) }
-{
+) -> Result<Pointer<'a>, Refusal> {
     let first = take_document(operands)?;
     let second = take_document(operands)?;
     put(place, join.doc(first, second))
@@ -140,11 +93,7 @@ fn make_joined<'a>(
 fn make_by_column<'a>(
     place: &'a Place<'a>,
     operands: &mut Vec<Operand<'a>>,
-) -> Result<Pointer<'a>, Refusal>
-    ensures ok { IfOk result (λ d. Makes operators.OnColumn (items_of operands.old.items) (pointer_tree d) (items_of operands.new.items)) }
-    ensures err { IfErr result (λ e. RefusesWith e ((d : Tree) (rest : List OperandItem)
-        → Makes operators.OnColumn (items_of operands.old.items) d rest → ⊥)) }
-{
+) -> Result<Pointer<'a>, Refusal> {
     let test = take_column_test(operands)?;
     let first = take_document(operands)?;
     let second = take_document(operands)?;
@@ -155,11 +104,7 @@ fn make_by_column<'a>(
 fn make_by_nesting<'a>(
     place: &'a Place<'a>,
     operands: &mut Vec<Operand<'a>>,
-) -> Result<Pointer<'a>, Refusal>
-    ensures ok { IfOk result (λ d. Makes operators.OnNesting (items_of operands.old.items) (pointer_tree d) (items_of operands.new.items)) }
-    ensures err { IfErr result (λ e. RefusesWith e ((d : Tree) (rest : List OperandItem)
-        → Makes operators.OnNesting (items_of operands.old.items) d rest → ⊥)) }
-{
+) -> Result<Pointer<'a>, Refusal> {
     let test = take_nesting_test(operands)?;
     let first = take_document(operands)?;
     let second = take_document(operands)?;
@@ -171,11 +116,7 @@ fn make<'a>(
     place: &'a Place<'a>,
     operator: Operator,
     operands: &mut Vec<Operand<'a>>,
-) -> Result<Pointer<'a>, Refusal>
-    ensures ok { IfOk result (λ d. Makes operator (items_of operands.old.items) (pointer_tree d) (items_of operands.new.items)) }
-    ensures err { IfErr result (λ e. RefusesWith e ((d : Tree) (rest : List OperandItem)
-        → Makes operator (items_of operands.old.items) d rest → ⊥)) }
-{
+) -> Result<Pointer<'a>, Refusal> {
     match operator {
         Operator::Text => make_text(place, operands),
         Operator::TextWithLen => make_counted_text(place, operands),
@@ -193,10 +134,7 @@ fn put_in_front<'a>(
     place: &'a Place<'a>,
     word: &'a [u8],
     operands: &mut Vec<Operand<'a>>,
-) -> Result<(), Refusal>
-    ensures ok { OnOk result (Steps word.now (items_of operands.old.items) (items_of operands.new.items)) }
-    ensures err { IfErr result (λ e. RefusesWith e ((new : List OperandItem) → Steps word.now (items_of operands.old.items) new → ⊥)) }
-{
+) -> Result<(), Refusal> {
     let operand = match leaf_named(word) {
         Some(leaf) => Operand::Document(put(place, leaf.doc())?),
         None => match operator_named(word) {
@@ -209,16 +147,10 @@ fn put_in_front<'a>(
 }
 
 /// The document that the words write, all of them.
-pub fn read_document<'a>(place: &'a Place<'a>, words: &[&'a [u8]]) -> Result<Pointer<'a>, Refusal>
-    ensures ok { IfOk result (λ d. IsSpelled (pointer_tree d) (map (λ w. w.now) words.now)) }
-    ensures only { IfOk result (λ d. (t : Tree) → IsSpelled t (map (λ w. w.now) words.now) → t ≡ pointer_tree d) }
-    ensures err { IfErr result (λ e. RefusesWith e ((t : Tree) → IsSpelled t (map (λ w. w.now) words.now) → ⊥)) }
-{
+pub fn read_document<'a>(place: &'a Place<'a>, words: &[&'a [u8]]) -> Result<Pointer<'a>, Refusal> {
     let mut operands = Vec::new(place.memory());
-    let mut at = words.len();
-    while at > 0 {
-        at -= 1;
-        put_in_front(place, words[at], &mut operands)?;
+    for &word in words.iter().rev() {
+        put_in_front(place, word, &mut operands)?;
     }
     let document = take_document(&mut operands)?;
     if operands.is_empty() {

@@ -1,8 +1,3 @@
-ghost use Rattle.std.specs.Prelude.{IfOk, IfErr};
-ghost use Rattle.std.specs.String.{string_bytes};
-ghost use Rattle.replay_cases.specs.Outcomes.{IsReplayed};
-ghost use Rattle.replay_cases.specs.Refusals.{RefusesLine};
-
 use crate::case::read_case;
 use crate::outcome::{Times, outcome};
 use crate::pointer::Place;
@@ -12,19 +7,13 @@ use prettyless::DocPlace;
 use std::alloc::Global;
 
 // What comes of the case, whose nodes will be here.
-fn replayed_in<'a>(place: &'a Place<'a>, times: Times, line: &'a [u8]) -> Result<String, Refusal>
-    ensures ok { IfOk result (λ text. IsReplayed line.now (string_bytes text)) }
-    ensures err { IfErr result (λ e. RefusesLine e line.now) }
-{
+fn replayed_in<'a>(place: &'a Place<'a>, times: Times, line: &'a [u8]) -> Result<String, Refusal> {
     let case = read_case(place, line)?;
     Ok(outcome(place.memory(), times, &case)?)
 }
 
 /// What comes of the case that a line writes, as words. The memory of its document is given back.
-pub fn replayed(alloc: Global, times: Times, line: &[u8]) -> Result<String, Refusal>
-    ensures ok { IfOk result (λ text. IsReplayed line.now (string_bytes text)) }
-    ensures err { IfErr result (λ e. RefusesLine e line.now) }
-{
+pub fn replayed(alloc: Global, times: Times, line: &[u8]) -> Result<String, Refusal> {
     let bump = Bump::new(alloc);
     let place = Place::new(alloc, &bump);
     replayed_in(&place, times, line)

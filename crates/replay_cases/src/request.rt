@@ -1,7 +1,4 @@
 //! What the words of `replay` ask for, and how a run of it ends.
-ghost use Rattle.std.specs.Prelude.{◌≡◌};
-ghost use Rattle.replay_cases.specs.Requests.{Asks, AsksRandom, ending_message, ending_status};
-ghost use Rattle.replay_cases.specs.declared.request.ReplayEnd.TheVariants.{Failed};
 
 use decimals::number;
 use std::io;
@@ -24,9 +21,7 @@ pub enum Request {
 }
 
 // Random cases of the seed and as many as these words write.
-fn random(seed: &str, count: &str) -> Option<Request>
-    ensures { AsksRandom seed.now count.now result }
-{
+fn random(seed: &str, count: &str) -> Option<Request> {
     let seed = number(seed.as_bytes())?;
     let count = number(count.as_bytes())?;
     Some(Request::Random(seed, count))
@@ -34,9 +29,7 @@ fn random(seed: &str, count: &str) -> Option<Request>
 
 /// What the words of `replay` ask for: cases, where there is none, or help, by `--help` alone, or cases that are laid out twice,
 /// by `--twice` alone, or random ones, by `--random`, a seed and how many.
-pub fn requested(words: &[String]) -> Option<Request>
-    ensures { Asks words.now result }
-{
+pub fn requested(words: &[String]) -> Option<Request> {
     match words {
         [] => Some(Request::Replay),
         [word] if word.as_str() == "--help" => Some(Request::Help),
@@ -61,9 +54,7 @@ pub enum ReplayEnd {
 
 impl ReplayEnd {
     /// What is written to standard error.
-    pub fn message(&self) -> &'static str
-        ensures { result.now ≡ ending_message self.now }
-    {
+    pub fn message(&self) -> &'static str {
         match self {
             ReplayEnd::Words => USAGE,
             ReplayEnd::Failed(_) => "error: reading or writing failed",
@@ -72,9 +63,7 @@ impl ReplayEnd {
     }
 
     /// The status that `replay` ends with.
-    pub fn status(&self) -> u8
-        ensures { result ≡ ending_status self.now }
-    {
+    pub fn status(&self) -> u8 {
         match self {
             ReplayEnd::Words => 2,
             ReplayEnd::Failed(_) | ReplayEnd::Otherwise => 1,
@@ -83,8 +72,6 @@ impl ReplayEnd {
 }
 
 impl From<io::Error> for ReplayEnd {
-    ghost from_gives = { λ e r. r ≡ Failed e };
-
     fn from(error: io::Error) -> ReplayEnd {
         ReplayEnd::Failed(error)
     }

@@ -1,8 +1,3 @@
-ghost use Rattle.std.specs.Prelude.{IfOk, IfSome, OnErr};
-ghost use Rattle.std.specs.Io.KnownBytes.{Consumes};
-ghost use Rattle.prettyless_sink.specs.Sink.{IfKnown};
-ghost use Rattle.replay_cases.specs.Runs.{ReadsLine, RunsCases};
-
 use crate::answer::answer;
 use crate::outcome::Times;
 use prettyless::Render;
@@ -12,11 +7,7 @@ use std::io::{BufRead, ErrorKind};
 
 // Reads the next line, without its LF. It is false where none is left. Where the reader fails, the line has the bytes that
 // it gave.
-fn next_line<R: BufRead>(reader: &mut R, line: &mut Vec<u8>) -> io::Result<bool>
-    ensures ok { IfOk result (λ found. IfSome (R.remaining reader.old)
-        (λ bytes. ReadsLine found bytes line.new.items (R.remaining reader.new))) }
-    ensures err { OnErr result (Consumes (R.remaining reader.old) (R.remaining reader.new) line.new.items) }
-{
+fn next_line<R: BufRead>(reader: &mut R, line: &mut Vec<u8>) -> io::Result<bool> {
     line.clear();
     if reader.read_until(b'\n', line)? == 0 {
         return Ok(false);
@@ -37,10 +28,7 @@ pub fn run<R: BufRead, S: Render<Error = io::Error>>(
     times: Times,
     reader: &mut R,
     out: &mut S,
-) -> io::Result<()>
-    ensures { IfKnown (S.bytes out.old) (S.bytes out.new) (λ before after.
-        RunsCases (R.remaining reader.old) before after (S.failures out.old) (S.failures out.new) result) }
-{
+) -> io::Result<()> {
     let mut line = Vec::new(alloc);
     for before in 0..u64::MAX {
         if !next_line(reader, &mut line)? {
