@@ -1,18 +1,17 @@
 use crate::expected::Expected;
 use crate::names::named_in;
-use crate::pointer::{Place, Pointer};
 use crate::reading::read_document;
 use crate::refusal::Refusal;
+use crate::words::repeated;
 use decimals::number;
 use prettyless::DocPlace;
 use prettyless_model::options::{IndentationPolicy, LineEnding, RenderOptions};
-use std::alloc::{AllocError, Global};
 
 /// A case that was read: a document, and what is asked of its layout.
 #[derive(Drop)]
-pub struct ReadCase<'a> {
+pub struct ReadCase<T> {
     pub options: RenderOptions,
-    pub document: Pointer<'a>,
+    pub document: T,
 }
 
 const LINE_ENDINGS: [(&[u8], LineEnding); 2] = [
@@ -41,23 +40,18 @@ fn options(width: &[u8], ending: &[u8], policy: &[u8]) -> Result<RenderOptions, 
     })
 }
 
-// The words of a line up to the first `=>`, or all.
-fn case_words<'a>(alloc: Global, line: &'a [u8]) -> Result<Vec<&'a [u8]>, AllocError> {
-    line.split(|byte| *byte == b' ')
-        .take_while(|word| *word != b"=>".as_slice())
-        .collect(alloc)
-}
-
-/// The case that a line writes.
-pub fn read_case<'a>(place: &'a Place<'a>, line: &'a [u8]) -> Result<ReadCase<'a>, Refusal>
-// It is read as this case, and as no other.
-{
-    let words = case_words(place.memory(), line)?;
-    let [width, ending, policy, document @ ..] = words.as_slice() else {
+/// The case that these words write, with its nodes in this place.
+pub fn read_case<'a, D: DocPlace<'a>>(
+    place: &'a D,
+    words: &[&'a [u8]],
+) -> Result<ReadCase<D::Doc>, Refusal> {
+    let [width, ending, policy, document @ ..] = words else {
         return Err(Refusal::NotACase(Expected::Case));
     };
+    let options = options(width, ending, policy)?;
+    let document = repeated(place.memory(), document)?;
     Ok(ReadCase {
-        options: options(width, ending, policy)?,
-        document: read_document(place, document)?,
+        options,
+        document: read_document(place, &document)?,
     })
 }

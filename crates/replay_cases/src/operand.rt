@@ -1,18 +1,18 @@
 use crate::expected::Expected;
-use crate::pointer::Pointer;
 use crate::refusal::Refusal;
+use decimals::number;
 
 /// What an operator in front may take.
 #[derive(Drop)]
-pub enum Operand<'a> {
+pub enum Operand<'a, T> {
     /// A word that is no operator.
     Word(&'a [u8]),
-    Document(Pointer<'a>),
+    Document(T),
 }
 
 /// Takes the word that comes next, which is expected to be one of these.
-pub fn take_word<'a>(
-    operands: &mut Vec<Operand<'a>>,
+pub fn take_word<'a, T: Drop>(
+    operands: &mut Vec<Operand<'a, T>>,
     expected: Expected,
 ) -> Result<&'a [u8], Refusal> {
     match operands.pop() {
@@ -21,8 +21,16 @@ pub fn take_word<'a>(
     }
 }
 
+/// Takes the number whose word comes next.
+pub fn take_number<T: Drop>(
+    operands: &mut Vec<Operand<'_, T>>,
+    expected: Expected,
+) -> Result<usize, Refusal> {
+    Ok(number(take_word(operands, expected)?).ok_or(expected)?)
+}
+
 /// Takes the document that comes next.
-pub fn take_document<'a>(operands: &mut Vec<Operand<'a>>) -> Result<Pointer<'a>, Refusal> {
+pub fn take_document<T: Drop>(operands: &mut Vec<Operand<'_, T>>) -> Result<T, Refusal> {
     match operands.pop() {
         Some(Operand::Document(document)) => Ok(document),
         _ => Err(Refusal::NotACase(Expected::Document)),

@@ -1,5 +1,4 @@
 use crate::names::named_in;
-use crate::pointer::Pointer;
 use prettyless::Doc;
 
 /// A node with nothing below it and no text.
@@ -86,7 +85,7 @@ pub fn operator_named(word: &[u8]) -> Option<Operator> {
 
 impl Leaf {
     /// The node.
-    pub fn doc<'a>(self) -> Doc<'a, Pointer<'a>> {
+    pub fn doc<'a, T>(self) -> Doc<'a, T> {
         match self {
             Leaf::Nil => Doc::Nil,
             Leaf::Fail => Doc::Fail,
@@ -100,7 +99,7 @@ impl Leaf {
 
 impl Wrapper {
     /// The node with this document below it.
-    pub fn doc<'a>(self, inner: Pointer<'a>) -> Doc<'a, Pointer<'a>> {
+    pub fn doc<'a, T>(self, inner: T) -> Doc<'a, T> {
         match self {
             Wrapper::LineSuffix => Doc::LineSuffix(inner),
             Wrapper::DedentToRoot => Doc::DedentToRoot(inner),
@@ -113,7 +112,7 @@ impl Wrapper {
 
 impl Join {
     /// The node with these documents below it.
-    pub fn doc<'a>(self, first: Pointer<'a>, second: Pointer<'a>) -> Doc<'a, Pointer<'a>> {
+    pub fn doc<'a, T>(self, first: T, second: T) -> Doc<'a, T> {
         match self {
             Join::Append => Doc::Append(first, second),
             Join::BreakOrFlat => Doc::BreakOrFlat(first, second),

@@ -4,12 +4,14 @@ use prettyless::text::BuildError;
 use std::alloc::{AllocError, AllocFailed};
 
 /// Why a line has no outcome.
-#[derive(Clone, Copy, Debug, PartialEq, Eq)]
+#[derive(Debug, Drop)]
 pub enum Refusal {
     /// It writes no case.
     NotACase(Expected),
     /// Memory was refused.
     OutOfMemory,
+    /// Its case comes out otherwise than it states, or than it has to: how it does.
+    Differs(String),
 }
 
 impl From<Expected> for Refusal {
