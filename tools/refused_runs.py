@@ -5,8 +5,6 @@ from collections import namedtuple
 
 import built
 
-CASES = f"{built.ROOT}/tools/shim/cases"
-
 # How a run ends: its status, what it writes, what it says on standard error, and the files that then stand in its folder.
 Ending = namedtuple("Ending", "status out said files")
 # A program, its words, its standard input and the files in its folder. And how it ends where nothing is refused.
@@ -77,18 +75,22 @@ def groups(end):
     return f"50 lf eager app app t 70 sfx t 73 {inner}"
 
 
-def stored_cases():
-    """Each case, and its outcome."""
-    lines = content(CASES).decode().splitlines()
-    cases = [tuple(line.split(" => ")) for line in lines if not line.startswith("#")]
+def stored(name):
+    """Each case of a file, and its outcome."""
+    lines = content(f"{built.ROOT}/tools/shim/{name}.cases").decode().splitlines()
+    return [tuple(line.split(" => ")) for line in lines if not line.startswith("#")]
+
+
+def over_tables():
+    """Two cases of groups, and their outcomes."""
     # The 25 last letters take 49 columns. Those before them have lines of their own, the first one with the suffixes.
     kept = b"pxxastt" + 15 * b"\na" + 24 * b" a"
-    return cases + [(groups("nil"), f"ok {kept.hex()}"), (groups("fail"), f"ok {b'pxystu'.hex()}")]
+    return [(groups("nil"), f"ok {kept.hex()}"), (groups("fail"), f"ok {b'pxystu'.hex()}")]
 
 
-def replaying(words):
-    """A run of all cases."""
-    cases, outcomes = zip(*stored_cases())
+def replaying(words, stated):
+    """A run of cases with their outcomes."""
+    cases, outcomes = zip(*stated)
     given, out = ["".join(f"{line}\n" for line in lines).encode() for lines in (cases, outcomes)]
     return reading("replay", words, given, out)
 
@@ -103,7 +105,9 @@ def building():
 
 
 def all_runs():
-    return [replaying([]), replaying(["--twice"]), *FORMATTING, building()]
+    cases = stored("replay") + over_tables()
+    hostile = [replaying(["--hostile"], [case]) for case in stored("hostile")]
+    return [replaying([], cases), replaying(["--twice"], cases), *hostile, *FORMATTING, building()]
 
 
 # How a run may end

@@ -1,41 +1,38 @@
-//! The stored cases of the repository: each document is built by `Doc`, node by node, and has the layout that is
-//! stored.
+//! The stored cases of the repository: each document is built by `Doc`, node by node, and has the layout that its line
+//! states.
 
 #[path = "../examples/replay/case.rs"]
 mod case;
 
 use std::fs;
-use std::path::{Path, PathBuf};
+use std::path::Path;
 
-fn stored(file: &str) -> PathBuf {
-    Path::new(env!("CARGO_MANIFEST_DIR"))
-        .join("../../crates/replay")
-        .join(file)
+/// The lines of `crates/replay/stdin` that are written as every reader of cases has them.
+fn stored_cases() -> String {
+    let path = Path::new(env!("CARGO_MANIFEST_DIR")).join("../../crates/replay/stdin");
+    let stored = fs::read_to_string(path).expect("the repository has crates/replay/stdin");
+    let (cases, _) = stored
+        .split_once("# Cases of replay alone")
+        .expect("the cases of replay alone come last");
+    cases.to_owned()
 }
 
-/// An answer without the reason why a line is no case.
-fn kind_of_answer(answer: &str) -> &str {
-    match answer.split_once(' ') {
-        Some(("error", _)) => "error",
-        _ => answer,
+/// What a line states, without the reason why it is no case.
+fn stated(line: &str) -> Option<&str> {
+    let (_, stated) = line.rsplit_once(" => ")?;
+    match stated.split_once(' ') {
+        Some(("error", _)) => Some("error"),
+        _ => Some(stated),
     }
 }
 
 #[test]
-fn the_stored_cases_have_the_stored_answers() {
-    let cases = fs::read(stored("stdin")).expect("the repository has crates/replay/stdin");
-    let answers = fs::read_to_string(stored("stdout")).expect("the repository has crates/replay/stdout");
-    let mut answers = answers.lines();
-    for (number, line) in (1..).zip(cases.split(|&byte| byte == b'\n')) {
-        if let Some(answer) = case::answer(line) {
-            assert_eq!(
-                answers.next().map(kind_of_answer),
-                Some(answer.as_str()),
-                "line {number}"
-            );
+fn the_stored_cases_are_as_they_state() {
+    for (number, line) in (1..).zip(stored_cases().lines()) {
+        if let Some(answer) = case::answer(line.as_bytes()) {
+            assert_eq!(stated(line), Some(answer.as_str()), "line {number}");
         }
     }
-    assert_eq!(answers.next(), None);
 }
 
 #[test]

@@ -1,10 +1,10 @@
-//! Lays out cases: `replay` reads a document and what is asked of its layout from each line of standard input, and
-//! answers with what comes of it on a line of standard output. `replay --random SEED COUNT` lays out cases that it makes.
-//! `replay --help` writes the usage.
+//! Lays out cases: `replay` reads a document and what is asked of its layout from each line of standard input. It compares what
+//! comes of it with what the line states, or else answers with that on a line of standard output. `replay --random SEED COUNT`
+//! lays out cases that it makes. `replay --help` writes the usage.
 #![tactic(auto)]
 
 use prettyless::IoWrite;
-use replay_cases::outcome::Times;
+use replay_cases::answer::Asked;
 use replay_cases::random::first_other;
 use replay_cases::request::{ReplayEnd, Request, USAGE, requested};
 use replay_cases::run::run;
@@ -25,11 +25,16 @@ fn words<R: AllocGlobal + Env>(rt: &R) -> Result<Vec<String>, ReplayEnd> {
         .map_err(|error| ReplayEnd::Failed(io::Error::from(error)))
 }
 
-fn answer_cases<R: AllocGlobal + Input + Print>(rt: &R, times: Times) -> io::Result<()> {
+fn answer_cases<R: AllocGlobal + Input + Print>(rt: &R, asked: Asked) -> Result<(), ReplayEnd> {
     let mut reader = BufReader::new(rt.alloc(), rt.reader())?;
     let mut out = BufWriter::new(rt.alloc(), io::writer(rt))?;
-    run(rt.alloc(), times, &mut reader, &mut IoWrite::new(&mut out))?;
-    out.flush()
+    let tally = run(rt.alloc(), asked, &mut reader, &mut IoWrite::new(&mut out))?;
+    out.flush()?;
+    if tally.different == 0 {
+        Ok(())
+    } else {
+        Err(ReplayEnd::Differs)
+    }
 }
 
 // Lays random cases out, and says how many, or which of them comes out otherwise over a table.
@@ -53,8 +58,7 @@ fn lay_out_random<R: AllocGlobal + Print>(
 
 fn replay<R: AllocGlobal + Env + Input + Print>(rt: &R) -> Result<(), ReplayEnd> {
     match requested(&words(rt)?).ok_or(ReplayEnd::Words)? {
-        Request::Replay => answer_cases(rt, Times::Once)?,
-        Request::ReplayTwice => answer_cases(rt, Times::Twice)?,
+        Request::Replay(asked) => answer_cases(rt, asked)?,
         Request::Random(seed, count) => lay_out_random(rt, seed, count)?,
         Request::Help => println!(rt; "{USAGE}")?,
     }

@@ -1,72 +1,101 @@
-ghost use Rattle.std.specs.Prelude.{◌≡◌, ◌∷◌, ◌++◌, [], IfOk};
-ghost use Rattle.std.specs.String.{string_bytes};
-ghost use Rattle.prettyless_sink.specs.Sink.{IfKnown};
-ghost use Rattle.replay_cases.specs.Answers.{is_skipped, IsAnswer, WritesAnswer, AnswersLine};
-ghost use Rattle.replay_cases.specs.Refusals.{complaint};
-
+//! What is said of a line.
+use crate::compared::{Trials, compare, compared};
 use crate::expected::Expected;
-use crate::outcome::Times;
+use crate::outcome::error_words;
 use crate::refusal::Refusal;
-use crate::replayed::replayed;
-use prettyless::Render;
+use crate::statement::Statement;
+use crate::words::Line;
 use std::alloc::{AllocError, Global};
 
-// The line is empty, or a comment.
-fn is_skipped(line: &[u8]) -> bool
-    ensures { result ≡ is_skipped line.now }
-{
-    matches!(line, [] | [b'#', ..])
+/// What is asked of the lines.
+#[derive(Clone, Copy, Debug, Default, PartialEq, Eq)]
+pub struct Asked {
+    pub trials: Trials,
+    /// Whether each line is answered, whatever it states.
+    pub answers: bool,
 }
 
-// What is said of the line of this number, which is no case.
-fn complaint(alloc: Global, number: u64, expected: Expected) -> Result<String, AllocError>
-    ensures { IfOk result (λ text. string_bytes text ≡ complaint number expected) }
-{
-    let mut text = String::from_str(alloc, "error line ")?;
-    text.push_str(number.to_string(alloc)?.as_str())?;
-    text.push_str(": expected ")?;
-    text.push_str(expected.description())?;
-    Ok(text)
+/// What is said of a line.
+#[derive(Drop)]
+pub enum Answer {
+    /// It is empty, or a comment.
+    Nothing,
+    /// What comes of its case, or why it is none.
+    Outcome(String),
+    /// Its case is as it states.
+    AsStated,
+    /// Its case is otherwise than it states, or than it has to be: how it is.
+    Differs(String),
 }
 
-// The answer to the line of this number, where memory suffices.
-fn answer_text(alloc: Global, times: Times, number: u64, line: &[u8]) -> Result<String, AllocError>
-    ensures { IfOk result (λ text. IsAnswer number line.now (string_bytes text)) }
-{
-    match replayed(alloc, times, line) {
-        Ok(outcome) => Ok(outcome),
-        Err(Refusal::NotACase(expected)) => complaint(alloc, number, expected),
+// The answer to a line of this number that is no case.
+fn complaint(alloc: Global, number: u64, expected: Expected) -> Result<String, AllocError> {
+    let expected = expected.description();
+    format!(in alloc; "error line {number}: expected {expected}")
+}
+
+// How the line of this number differs.
+fn difference(alloc: Global, number: u64, what: &str) -> Result<Answer, AllocError> {
+    Ok(Answer::Differs(format!(in alloc; "line {number}: {what}")?))
+}
+
+// The answer to a line that states nothing.
+fn answer_case(
+    alloc: Global,
+    trials: Trials,
+    number: u64,
+    words: &[&[u8]],
+) -> Result<Answer, AllocError> {
+    match compared(alloc, words, None, trials) {
+        Ok(outcome) => Ok(Answer::Outcome(outcome.words(alloc)?)),
+        Err(Refusal::NotACase(expected)) => {
+            Ok(Answer::Outcome(complaint(alloc, number, expected)?))
+        }
+        Err(Refusal::Differs(what)) => difference(alloc, number, what.as_str()),
         Err(Refusal::OutOfMemory) => Err(AllocError),
     }
 }
 
-fn write_line<S: Render>(out: &mut S, text: &str) -> Result<(), S::Error>
-    ensures { IfKnown (S.bytes out.old) (S.bytes out.new) (λ before after.
-        WritesAnswer (text.now ++ 10 ∷ []) before after (S.failures out.old) (S.failures out.new) result) }
-{
-    out.write_str_all(text)?;
-    out.write_str_all("\n")
+// Compares a case with what is stated of it. Of words that are no case an error may be stated.
+fn compare_case(
+    alloc: Global,
+    trials: Trials,
+    words: &[&[u8]],
+    stated: &[&[u8]],
+) -> Result<(), Refusal> {
+    let statement = Statement::new(alloc, stated)?;
+    match compared(alloc, words, Some(&statement), trials) {
+        Ok(_) => Ok(()),
+        Err(Refusal::NotACase(expected)) => {
+            let found = error_words(alloc, expected.description())?;
+            compare(alloc, "", statement.outcome.as_str(), found.as_str())
+        }
+        Err(refusal) => Err(refusal),
+    }
 }
 
-/// Writes the answer to the line of this number, and LF: what comes of its case, or `error` and why it has none.
-///
-/// An empty line and a comment, which begins with `#`, have no answer. An error is the sink's: it then has a beginning of
-/// the answer, and got no piece after that.
-pub fn answer<S: Render>(
+/// What is said of the line of this number.
+pub fn answered(
     alloc: Global,
-    times: Times,
+    asked: Asked,
     number: u64,
     line: &[u8],
-    out: &mut S,
-) -> Result<(), S::Error>
-    ensures { IfKnown (S.bytes out.old) (S.bytes out.new) (λ before after.
-        AnswersLine number line.now before after (S.failures out.old) (S.failures out.new) result) }
-{
-    if is_skipped(line) {
-        return Ok(());
+) -> Result<Answer, AllocError> {
+    if matches!(line, [] | [b'#', ..]) {
+        return Ok(Answer::Nothing);
     }
-    match answer_text(alloc, times, number, line) {
-        Ok(text) => write_line(out, text.as_str()),
-        Err(_) => write_line(out, "error out of memory"),
+    let line = Line::new(alloc, line)?;
+    let stated = match &line.stated {
+        Some(stated) if !asked.answers => stated,
+        _ => return answer_case(alloc, asked.trials, number, &line.case),
+    };
+    match compare_case(alloc, asked.trials, &line.case, stated) {
+        Ok(()) => Ok(Answer::AsStated),
+        Err(Refusal::NotACase(expected)) => {
+            let words = error_words(alloc, expected.description())?;
+            difference(alloc, number, words.as_str())
+        }
+        Err(Refusal::Differs(what)) => difference(alloc, number, what.as_str()),
+        Err(Refusal::OutOfMemory) => Err(AllocError),
     }
 }

@@ -1,24 +1,17 @@
-ghost use Rattle.std.specs.Prelude.{◌≡◌, map, IfOk, IfErr};
-ghost use Rattle.prettyless_model.specs.declared.options.RenderOptions.{RenderOptions};
-ghost use Rattle.replay_cases.specs.Notation.{Case, Denotes, AreOptions, named_in, line_endings, indentation_policies, case_words};
-ghost use Rattle.replay_cases.specs.Cases.{case_of};
-ghost use Rattle.replay_cases.specs.Refusals.{LacksOption, RefusesWith};
-
 use crate::expected::Expected;
 use crate::names::named_in;
-use crate::pointer::{Place, Pointer};
 use crate::reading::read_document;
 use crate::refusal::Refusal;
+use crate::words::repeated;
 use decimals::number;
 use prettyless::DocPlace;
 use prettyless_model::options::{IndentationPolicy, LineEnding, RenderOptions};
-use std::alloc::{AllocError, Global};
 
 /// A case that was read: a document, and what is asked of its layout.
 #[derive(Drop)]
-pub struct ReadCase<'a> {
+pub struct ReadCase<T> {
     pub options: RenderOptions,
-    pub document: Pointer<'a>,
+    pub document: T,
 }
 
 const LINE_ENDINGS: [(&[u8], LineEnding); 2] = [
@@ -26,9 +19,7 @@ const LINE_ENDINGS: [(&[u8], LineEnding); 2] = [
     (b"crlf", LineEnding::Crlf),
 ];
 
-fn line_ending(word: &[u8]) -> Option<LineEnding>
-    ensures { result ≡ named_in line_endings word.now }
-{
+fn line_ending(word: &[u8]) -> Option<LineEnding> {
     named_in(&LINE_ENDINGS, word)
 }
 
@@ -37,16 +28,11 @@ const INDENTATION_POLICIES: [(&[u8], IndentationPolicy); 2] = [
     (b"deferred", IndentationPolicy::Deferred),
 ];
 
-fn indentation_policy(word: &[u8]) -> Option<IndentationPolicy>
-    ensures { result ≡ named_in indentation_policies word.now }
-{
+fn indentation_policy(word: &[u8]) -> Option<IndentationPolicy> {
     named_in(&INDENTATION_POLICIES, word)
 }
 
-fn options(width: &[u8], ending: &[u8], policy: &[u8]) -> Result<RenderOptions, Expected>
-    ensures ok { IfOk result (λ o. AreOptions o width.now ending.now policy.now) }
-    ensures err { IfErr result (λ e. LacksOption e width.now ending.now policy.now) }
-{
+fn options(width: &[u8], ending: &[u8], policy: &[u8]) -> Result<RenderOptions, Expected> {
     Ok(RenderOptions {
         width: number(width).ok_or(Expected::Width)?,
         line_ending: line_ending(ending).ok_or(Expected::LineEnding)?,
@@ -54,28 +40,18 @@ fn options(width: &[u8], ending: &[u8], policy: &[u8]) -> Result<RenderOptions, 
     })
 }
 
-// The words of a line up to the first `=>`, or all.
-fn case_words<'a>(alloc: Global, line: &'a [u8]) -> Result<Vec<&'a [u8]>, AllocError>
-    ensures { IfOk result (λ v. map (λ w. w.now) v.items ≡ case_words line.now) }
-{
-    line.split(|byte| *byte == b' ')
-        .take_while(|word| *word != b"=>".as_slice())
-        .collect(alloc)
-}
-
-/// The case that a line writes.
-pub fn read_case<'a>(place: &'a Place<'a>, line: &'a [u8]) -> Result<ReadCase<'a>, Refusal>
-    ensures ok { IfOk result (λ c. Denotes line.now (case_of c)) }
-    // It is read as this case, and as no other.
-    ensures only { IfOk result (λ c. (d : Case) → Denotes line.now d → d ≡ case_of c) }
-    ensures err { IfErr result (λ e. RefusesWith e ((c : Case) → Denotes line.now c → ⊥)) }
-{
-    let words = case_words(place.memory(), line)?;
-    let [width, ending, policy, document @ ..] = words.as_slice() else {
+/// The case that these words write, with its nodes in this place.
+pub fn read_case<'a, D: DocPlace<'a>>(
+    place: &'a D,
+    words: &[&'a [u8]],
+) -> Result<ReadCase<D::Doc>, Refusal> {
+    let [width, ending, policy, document @ ..] = words else {
         return Err(Refusal::NotACase(Expected::Case));
     };
+    let options = options(width, ending, policy)?;
+    let document = repeated(place.memory(), document)?;
     Ok(ReadCase {
-        options: options(width, ending, policy)?,
-        document: read_document(place, document)?,
+        options,
+        document: read_document(place, &document)?,
     })
 }

@@ -1,21 +1,24 @@
-//! Cases, one a line: a document and what is asked of its layout, and the answer.
+//! Cases, one a line: a document and what is asked of its layout, with what its line states of it, and the answer.
 #![tactic(auto)]
 
-mod answer;
+pub mod answer;
 mod case;
+pub mod compared;
 mod condition;
 mod dice;
 mod expected;
-mod hexadecimal;
+mod hostile;
 mod names;
 mod offset;
 mod operand;
 mod operator;
-pub mod outcome;
-mod pointer;
+mod outcome;
+mod pieces;
 pub mod random;
 mod reading;
 mod refusal;
-mod replayed;
 pub mod request;
 pub mod run;
+mod statement;
+mod text;
+mod words;

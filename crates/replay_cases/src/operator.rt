@@ -1,11 +1,4 @@
-ghost use Rattle.std.specs.Prelude.{◌≡◌, option_map};
-ghost use Rattle.prettyless.specs.DocTree.{tree_of};
-ghost use Rattle.replay_cases.specs.Notation.{leaf_of};
-ghost use Rattle.replay_cases.specs.Pointers.{pointer_tree};
-ghost use Rattle.replay_cases.specs.Reading.{operator_of, leaf_tree, wrapped, node_of_two};
-
 use crate::names::named_in;
-use crate::pointer::Pointer;
 use prettyless::Doc;
 
 /// A node with nothing below it and no text.
@@ -62,9 +55,7 @@ const LEAVES: [(&[u8], Leaf); 6] = [
 ];
 
 /// The node that a word names, with nothing below it and no text.
-pub fn leaf_named(word: &[u8]) -> Option<Leaf>
-    ensures { option_map leaf_tree result ≡ leaf_of word.now }
-{
+pub fn leaf_named(word: &[u8]) -> Option<Leaf> {
     named_in(&LEAVES, word)
 }
 
@@ -88,17 +79,13 @@ const OPERATORS: [(&[u8], Operator); 15] = [
 ];
 
 /// The operator that a word names.
-pub fn operator_named(word: &[u8]) -> Option<Operator>
-    ensures { result ≡ operator_of word.now }
-{
+pub fn operator_named(word: &[u8]) -> Option<Operator> {
     named_in(&OPERATORS, word)
 }
 
 impl Leaf {
     /// The node.
-    pub fn doc<'a>(self) -> Doc<'a, Pointer<'a>>
-        ensures { tree_of pointer_tree result ≡ leaf_tree self }
-    {
+    pub fn doc<'a, T>(self) -> Doc<'a, T> {
         match self {
             Leaf::Nil => Doc::Nil,
             Leaf::Fail => Doc::Fail,
@@ -112,9 +99,7 @@ impl Leaf {
 
 impl Wrapper {
     /// The node with this document below it.
-    pub fn doc<'a>(self, inner: Pointer<'a>) -> Doc<'a, Pointer<'a>>
-        ensures { tree_of pointer_tree result ≡ wrapped self (pointer_tree inner.entry) }
-    {
+    pub fn doc<'a, T>(self, inner: T) -> Doc<'a, T> {
         match self {
             Wrapper::LineSuffix => Doc::LineSuffix(inner),
             Wrapper::DedentToRoot => Doc::DedentToRoot(inner),
@@ -127,9 +112,7 @@ impl Wrapper {
 
 impl Join {
     /// The node with these documents below it.
-    pub fn doc<'a>(self, first: Pointer<'a>, second: Pointer<'a>) -> Doc<'a, Pointer<'a>>
-        ensures { tree_of pointer_tree result ≡ node_of_two self (pointer_tree first.entry) (pointer_tree second.entry) }
-    {
+    pub fn doc<'a, T>(self, first: T, second: T) -> Doc<'a, T> {
         match self {
             Join::Append => Doc::Append(first, second),
             Join::BreakOrFlat => Doc::BreakOrFlat(first, second),

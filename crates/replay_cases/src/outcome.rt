@@ -1,112 +1,74 @@
-ghost use Rattle.std.specs.Prelude.{◌≡◌, ◌++◌, ◌↔◌, IfOk, IsTrue};
-ghost use Rattle.std.specs.String.{string_bytes};
-ghost use Rattle.prettyless.specs.Layout.{layout};
-ghost use Rattle.prettyless_printer.specs.Points.{seen};
-ghost use Rattle.prettyless_printer.specs.Renders.{Renders};
-ghost use Rattle.replay_cases.specs.Cases.{case_of};
-ghost use Rattle.replay_cases.specs.Notation.{hex_word};
-ghost use Rattle.replay_cases.specs.Outcomes.{outcome_of, outcome_words};
-
+//! What comes of a case.
 use crate::case::ReadCase;
-use crate::hexadecimal::word_of;
-use prettyless::DocPtr;
-use prettyless_model::options::RenderOptions;
-use prettyless_printer::render::{render, render_over_table};
-use prettyless_probe::walk::Walk;
-use prettyless_sink::error::RenderError;
-use prettyless_sink::fmt_write::FmtWrite;
-use prettyless_sink::render::Render;
-use prettyless_sink::visits::Visits;
+use crate::refusal::Refusal;
+use crate::text::word_of;
+use prettyless::{DocPtr, FmtWrite, RenderError, Visits};
+use prettyless_printer::render::render_over_table;
 use std::alloc::{AllocError, Global};
 
-/// How often a case is laid out.
-#[derive(Clone, Copy, Debug, PartialEq, Eq)]
-pub enum Times {
-    Once,
-    /// The second time over a table of all of its nodes.
-    Twice,
-}
-
-// Which nodes a render begins with.
-#[derive(Clone, Copy)]
-enum Over {
+/// Which nodes a render begins with.
+#[derive(Clone, Copy, PartialEq, Eq)]
+pub enum Over {
     Document,
+    /// A table of all nodes of the document.
     Table,
 }
 
-// A word in front of the word that writes the bytes.
-fn labelled(alloc: Global, label: &str, bytes: &str) -> Result<String, AllocError>
-    ensures { IfOk result (λ line. string_bytes line ≡ label.now ++ hex_word bytes.now) }
-{
-    let mut line = String::from_str(alloc, label)?;
-    line.push_str(word_of(alloc, bytes.as_bytes())?.as_str())?;
-    Ok(line)
+/// What comes of a case: its layout, or the bytes before the node that fails.
+#[derive(Drop, PartialEq)]
+pub struct Outcome {
+    pub fails: bool,
+    pub bytes: String,
 }
 
-// Renders a document in one way or the other.
-fn render_over<N: Walk, W: Render>(
-    over: Over,
-    alloc: Global,
-    node: N,
-    options: RenderOptions,
-    out: &mut W,
-    visits: &mut Visits,
-) -> Result<(), RenderError<W::Error>>
-    ensures { Renders (W.document_errors out.new) options (N.tree node)
-        (seen W.bytes W.failures W.lender out.old) (seen W.bytes W.failures W.lender out.new)
-        visits.old visits.new result }
-{
-    match over {
-        Over::Document => render(alloc, node, options, out, visits),
-        Over::Table => render_over_table(alloc, node, options, out, visits),
+// Words, and what comes after them.
+fn labelled(alloc: Global, label: &str, text: &str) -> Result<String, AllocError> {
+    let mut words = String::from_str(alloc, label)?;
+    words.push_str(text)?;
+    Ok(words)
+}
+
+impl Outcome {
+    /// The same in words: `ok` or `fail`, and the bytes.
+    pub fn words(&self, alloc: Global) -> Result<String, AllocError> {
+        let label = if self.fails { "fail " } else { "ok " };
+        labelled(
+            alloc,
+            label,
+            word_of(alloc, self.bytes.as_bytes())?.as_str(),
+        )
     }
 }
 
-// What comes of a document, as words.
-fn outcome_with<'a, T: DocPtr<'a>>(
-    over: Over,
+/// What is said of a line that is no case.
+pub fn error_words(alloc: Global, expected: &str) -> Result<String, AllocError> {
+    labelled(alloc, "error: expected ", expected)
+}
+
+/// What comes of a case over these nodes, and how many of them are visited.
+pub fn laid_out<'a, T: DocPtr<'a>>(
     alloc: Global,
-    document: &T,
-    options: RenderOptions,
-) -> Result<String, AllocError>
-    ensures { IfOk result (λ text. string_bytes text ≡ outcome_words (layout options (T.tree document.now))) }
-{
+    over: Over,
+    case: &ReadCase<T>,
+) -> Result<(Outcome, Visits), Refusal> {
     let mut bytes = String::new(alloc);
     let mut sink = FmtWrite::new(&mut bytes);
-    match render_over(
-        over,
-        alloc,
-        document.doc(),
-        options,
-        &mut sink,
-        &mut Visits::default(),
-    ) {
-        Ok(()) => labelled(alloc, "ok ", bytes.as_str()),
-        Err(RenderError::Document(_)) => labelled(alloc, "fail ", bytes.as_str()),
-        Err(RenderError::Sink(_) | RenderError::Memory(_)) => Err(AllocError),
+    let mut visits = Visits::default();
+    let document = case.document.doc();
+    let ending = match over {
+        Over::Document => {
+            document.render_raw_counted_with(alloc, case.options, &mut sink, &mut visits)
+        }
+        Over::Table => render_over_table(alloc, document, case.options, &mut sink, &mut visits),
+    };
+    let fails = match ending {
+        Ok(()) => false,
+        Err(RenderError::Document(_)) => true,
+        Err(_) => return Err(Refusal::OutOfMemory),
+    };
+    // A table that was refused memory.
+    if visits.refused > 0 {
+        return Err(Refusal::OutOfMemory);
     }
-}
-
-/// Whether these words come of a case over a table of all of its nodes.
-pub fn is_same_over_table(
-    alloc: Global,
-    case: &ReadCase<'_>,
-    text: &str,
-) -> Result<bool, AllocError>
-    ensures { IfOk result (λ same. IsTrue same ↔ (text.now ≡ outcome_of (case_of case.now))) }
-{
-    let again = outcome_with(Over::Table, alloc, &case.document, case.options)?;
-    Ok(again.as_str() == text)
-}
-
-/// What comes of a case, as words: `ok` and its layout, or `fail` and the bytes before the node that failed. Where it is laid out
-/// twice the same comes of both, or it has no answer.
-pub fn outcome(alloc: Global, times: Times, case: &ReadCase<'_>) -> Result<String, AllocError>
-    ensures { IfOk result (λ text. string_bytes text ≡ outcome_of (case_of case.now)) }
-{
-    let text = outcome_with(Over::Document, alloc, &case.document, case.options)?;
-    if times == Times::Twice && !is_same_over_table(alloc, case, text.as_str())? {
-        return Err(AllocError);
-    }
-    Ok(text)
+    Ok((Outcome { fails, bytes }, visits))
 }

@@ -1,15 +1,13 @@
 //! Cases that dice make.
-ghost use Rattle.std.specs.Prelude.{IfOk, IsNone, IsTrue};
 
 use crate::case::ReadCase;
 use crate::dice::Dice;
 use crate::operator::{Join, Leaf, Wrapper};
-use crate::outcome::{Times, is_same_over_table, outcome};
-use crate::pointer::{Place, Pointer, put, put_multiline};
+use crate::outcome::{Over, laid_out};
 use crate::refusal::Refusal;
 use bumpalo::Bump;
-use prettyless::text::Text;
-use prettyless::{ColumnTest, Doc, DocPlace, NestingTest};
+use prettyless::text::{CowStr, Text};
+use prettyless::{Arena, ColumnTest, Doc, DocPlace, NestingTest, RefDoc};
 use prettyless_model::options::{IndentationPolicy, LineEnding, RenderOptions};
 use std::alloc::{AllocError, Global};
 
@@ -98,6 +96,11 @@ const JOINS: [Join; 16] = [
 
 const OFFSETS: [isize; 8] = [2, 2, 4, 1, 3, -1, -2, -40];
 
+// Puts a node in its place.
+fn put<'a>(place: &'a Arena<'a>, doc: Doc<'a, RefDoc<'a>>) -> Result<RefDoc<'a>, Refusal> {
+    Ok(place.alloc(doc)?)
+}
+
 // A text from the table.
 fn text(dice: &mut Dice) -> Text<'static> {
     Text::Borrowed(TEXTS[dice.roll(TEXTS.len())])
@@ -105,10 +108,10 @@ fn text(dice: &mut Dice) -> Text<'static> {
 
 // Takes the document that was made last, or shares one that was made before, or makes a text where there is none.
 fn operand<'a>(
-    place: &'a Place<'a>,
+    place: &'a Arena<'a>,
     dice: &mut Dice,
-    made: &mut Vec<Pointer<'a>>,
-) -> Result<Pointer<'a>, Refusal> {
+    made: &mut Vec<RefDoc<'a>>,
+) -> Result<RefDoc<'a>, Refusal> {
     if dice.roll(16) == 0 && !made.is_empty() {
         return Ok(made[dice.roll(made.len())]);
     }
@@ -119,14 +122,14 @@ fn operand<'a>(
 }
 
 // A hard line where lines are broken, and a text where they are flat.
-fn soft_line<'a>(place: &'a Place<'a>, dice: &mut Dice) -> Result<Pointer<'a>, Refusal> {
+fn soft_line<'a>(place: &'a Arena<'a>, dice: &mut Dice) -> Result<RefDoc<'a>, Refusal> {
     let first = put(place, Doc::HardLine)?;
     let second = put(place, Doc::Text(text(dice)))?;
     put(place, Doc::BreakOrFlat(first, second))
 }
 
 // A choice by column or nesting.
-fn choice<'a>(dice: &mut Dice, first: Pointer<'a>, second: Pointer<'a>) -> Doc<'a, Pointer<'a>> {
+fn choice<'a>(dice: &mut Dice, first: RefDoc<'a>, second: RefDoc<'a>) -> Doc<'a, RefDoc<'a>> {
     let columns = dice.roll(20);
     match dice.roll(5) {
         0 => Doc::OnColumn(ColumnTest::AtMost(columns), first, second),
@@ -139,10 +142,10 @@ fn choice<'a>(dice: &mut Dice, first: Pointer<'a>, second: Pointer<'a>) -> Doc<'
 
 // A node over some of the documents that were made.
 fn node<'a>(
-    place: &'a Place<'a>,
+    place: &'a Arena<'a>,
     dice: &mut Dice,
-    made: &mut Vec<Pointer<'a>>,
-) -> Result<Pointer<'a>, Refusal> {
+    made: &mut Vec<RefDoc<'a>>,
+) -> Result<RefDoc<'a>, Refusal> {
     match dice.roll(40) {
         0..=5 => put(place, LEAVES[dice.roll(LEAVES.len())].doc()),
         6..=13 => put(place, Doc::Text(text(dice))),
@@ -150,10 +153,10 @@ fn node<'a>(
             let columns = dice.roll(9);
             put(place, Doc::TextWithLen(columns, text(dice)))
         }
-        15 => put_multiline(
-            place,
-            String::from_str(place.memory(), PAYLOADS[dice.roll(PAYLOADS.len())])?,
-        ),
+        15 => {
+            let text = CowStr::Borrowed(PAYLOADS[dice.roll(PAYLOADS.len())]);
+            put(place, Doc::multiline_text(place.memory(), text)?)
+        }
         16..=17 => soft_line(place, dice),
         18..=24 => {
             let inner = operand(place, dice, made)?;
@@ -178,11 +181,11 @@ fn node<'a>(
 
 // Joins documents, at random inside another node.
 fn joined<'a>(
-    place: &'a Place<'a>,
+    place: &'a Arena<'a>,
     dice: &mut Dice,
-    first: Pointer<'a>,
-    second: Pointer<'a>,
-) -> Result<Pointer<'a>, Refusal> {
+    first: RefDoc<'a>,
+    second: RefDoc<'a>,
+) -> Result<RefDoc<'a>, Refusal> {
     let both = put(place, JOINS[dice.roll(JOINS.len())].doc(first, second))?;
     match dice.roll(3) {
         0 => put(place, WRAPPERS[dice.roll(WRAPPERS.len())].doc(both)),
@@ -191,7 +194,7 @@ fn joined<'a>(
 }
 
 // A document of 1 to 48 random nodes, and of those that join what they leave over.
-fn document<'a>(place: &'a Place<'a>, dice: &mut Dice) -> Result<Pointer<'a>, Refusal> {
+fn document<'a>(place: &'a Arena<'a>, dice: &mut Dice) -> Result<RefDoc<'a>, Refusal> {
     let mut made = Vec::new(place.memory());
     for _ in 0..dice.roll(48) {
         let document = node(place, dice, &mut made)?;
@@ -214,30 +217,25 @@ fn options(dice: &mut Dice) -> RenderOptions {
 }
 
 // Whether the same comes of a case, whose nodes will be here, over a table.
-fn is_same_in<'a>(place: &'a Place<'a>, dice: &mut Dice) -> Result<bool, Refusal>
-    ensures { IfOk result IsTrue }
-{
+fn is_same_in<'a>(place: &'a Arena<'a>, dice: &mut Dice) -> Result<bool, Refusal> {
     let case = ReadCase {
         options: options(dice),
         document: document(place, dice)?,
     };
-    let text = outcome(place.memory(), Times::Once, &case)?;
-    Ok(is_same_over_table(place.memory(), &case, text.as_str())?)
+    let (first, _) = laid_out(place.memory(), Over::Document, &case)?;
+    let (second, _) = laid_out(place.memory(), Over::Table, &case)?;
+    Ok(first == second)
 }
 
 // The same. The memory of the document is given back.
-fn is_same(alloc: Global, dice: &mut Dice) -> Result<bool, Refusal>
-    ensures { IfOk result IsTrue }
-{
+fn is_same(alloc: Global, dice: &mut Dice) -> Result<bool, Refusal> {
     let bump = Bump::new(alloc);
-    let place = Place::new(alloc, &bump);
+    let place = Arena::new(alloc, &bump);
     is_same_in(&place, dice)
 }
 
 /// The number of the first of so many random cases of a seed that comes out otherwise over a table of all of its nodes: there is none.
-pub fn first_other(alloc: Global, seed: usize, count: usize) -> Result<Option<usize>, AllocError>
-    ensures { IfOk result IsNone }
-{
+pub fn first_other(alloc: Global, seed: usize, count: usize) -> Result<Option<usize>, AllocError> {
     let mut dice = Dice::new(seed);
     for number in 0..count {
         match is_same(alloc, &mut dice) {

@@ -1,206 +1,95 @@
-ghost use Rattle.std.specs.Prelude.{◌≡◌, ℕ, List, map, true, IfOk, OnOk, IfErr};
-ghost use Rattle.std.specs.String.{string_bytes};
-ghost use Rattle.prettyless_doc.specs.Breaks.{holds_break};
-ghost use Rattle.prettyless.specs.TextBytes.{bytes_of_text};
-ghost use Rattle.prettyless.specs.Tree.{Tree};
-ghost use Rattle.replay_cases.specs.Notation.{IsSpelled};
-ghost use Rattle.replay_cases.specs.Pointers.{pointer_tree};
-ghost use Rattle.replay_cases.specs.Reading.{OperandItem, items_of, BeginsWithText, Makes, Steps};
-ghost use Rattle.replay_cases.specs.Refusals.{RefusesWith};
-ghost use Rattle.replay_cases.specs.declared.operator.Operator.TheVariants as operators;
-
+//! Documents, read from the last of their words to the first, so that nothing calls itself.
 use crate::condition::{take_column_test, take_nesting_test};
 use crate::expected::Expected;
-use crate::hexadecimal::text;
 use crate::offset::offset;
-use crate::operand::{Operand, take_document, take_word};
-use crate::operator::{Join, Operator, Wrapper, leaf_named, operator_named};
-use crate::pointer::{Place, Pointer, put, put_multiline};
+use crate::operand::{Operand, take_document, take_number, take_word};
+use crate::operator::{Operator, leaf_named, operator_named};
 use crate::refusal::Refusal;
-use decimals::number;
-use prettyless::text::{CowStr, Text};
-use prettyless::{Doc, DocPlace};
+use crate::text::text;
+use prettyless::text::Text;
+use prettyless::{Doc, DocPlace, DocPtr};
 use prettyless_doc::measure::holds_break;
 use std::alloc::Global;
 
 // Takes the text whose word comes next.
-fn take_text<'a>(alloc: Global, operands: &mut Vec<Operand<'a>>) -> Result<Text<'a>, Refusal>
-    ensures ok { IfOk result (λ s. BeginsWithText (items_of operands.old.items) (bytes_of_text s) (items_of operands.new.items)) }
-    ensures err { IfErr result (λ e. RefusesWith e ((s : List ℕ) (rest : List OperandItem)
-        → BeginsWithText (items_of operands.old.items) s rest → ⊥)) }
-{
+fn take_text<'a, T: Drop>(
+    alloc: Global,
+    operands: &mut Vec<Operand<'a, T>>,
+) -> Result<Text<'a>, Refusal> {
     let text = text(alloc, take_word(operands, Expected::Text)?)?;
-    Ok(Text::from_cow(alloc, CowStr::Owned(text))?)
+    Ok(Text::from_cow(alloc, text)?)
 }
 
-// Takes the text of a payload, which holds a line break, whose word comes next.
-fn take_payload<'a>(alloc: Global, operands: &mut Vec<Operand<'a>>) -> Result<String, Refusal>
-    ensures ok { IfOk result (λ s. BeginsWithText (items_of operands.old.items) (string_bytes s) (items_of operands.new.items)) }
-    ensures breaks { IfOk result (λ s. holds_break (string_bytes s) ≡ true) }
-    ensures err { IfErr result (λ e. RefusesWith e ((d : Tree) (rest : List OperandItem)
-        → Makes operators.Payload (items_of operands.old.items) d rest → ⊥)) }
-{
+// The payload whose text comes next.
+fn payload<'a, T: DocPtr<'a>>(
+    alloc: Global,
+    operands: &mut Vec<Operand<'a, T>>,
+) -> Result<Doc<'a, T>, Refusal> {
     let text = text(alloc, take_word(operands, Expected::Payload)?)?;
-    if holds_break(text.as_str()) {
-        Ok(text)
-    } else {
-        Err(Refusal::NotACase(Expected::Payload))
+    if !holds_break(text.as_str()) {
+        return Err(Refusal::NotACase(Expected::Payload));
     }
+    Ok(Doc::multiline_text(alloc, text)?)
 }
 
-// A text.
-fn make_text<'a>(
-    place: &'a Place<'a>,
-    operands: &mut Vec<Operand<'a>>,
-) -> Result<Pointer<'a>, Refusal>
-    ensures ok { IfOk result (λ d. Makes operators.Text (items_of operands.old.items) (pointer_tree d) (items_of operands.new.items)) }
-    ensures err { IfErr result (λ e. RefusesWith e ((d : Tree) (rest : List OperandItem)
-        → Makes operators.Text (items_of operands.old.items) d rest → ⊥)) }
-{
-    let text = take_text(place.memory(), operands)?;
-    put(place, Doc::Text(text))
-}
-
-// A text whose columns are counted for it.
-fn make_counted_text<'a>(
-    place: &'a Place<'a>,
-    operands: &mut Vec<Operand<'a>>,
-) -> Result<Pointer<'a>, Refusal>
-    ensures ok { IfOk result (λ d.
-        Makes operators.TextWithLen (items_of operands.old.items) (pointer_tree d) (items_of operands.new.items)) }
-    ensures err { IfErr result (λ e. RefusesWith e ((d : Tree) (rest : List OperandItem)
-        → Makes operators.TextWithLen (items_of operands.old.items) d rest → ⊥)) }
-{
-    let word = take_word(operands, Expected::Columns)?;
-    let width = number(word).ok_or(Expected::Columns)?;
-    let text = take_text(place.memory(), operands)?;
-    put(place, Doc::TextWithLen(width, text))
-}
-
-// A payload.
-fn make_payload<'a>(
-    place: &'a Place<'a>,
-    operands: &mut Vec<Operand<'a>>,
-) -> Result<Pointer<'a>, Refusal>
-    ensures ok { IfOk result (λ d. Makes operators.Payload (items_of operands.old.items) (pointer_tree d) (items_of operands.new.items)) }
-    ensures err { IfErr result (λ e. RefusesWith e ((d : Tree) (rest : List OperandItem)
-        → Makes operators.Payload (items_of operands.old.items) d rest → ⊥)) }
-{
-    let text = take_payload(place.memory(), operands)?;
-    put_multiline(place, text)
-}
-
-// A document with another indent.
-fn make_nest<'a>(
-    place: &'a Place<'a>,
-    operands: &mut Vec<Operand<'a>>,
-) -> Result<Pointer<'a>, Refusal>
-    ensures ok { IfOk result (λ d. Makes operators.Nest (items_of operands.old.items) (pointer_tree d) (items_of operands.new.items)) }
-    ensures err { IfErr result (λ e. RefusesWith e ((d : Tree) (rest : List OperandItem)
-        → Makes operators.Nest (items_of operands.old.items) d rest → ⊥)) }
-{
+// The document with another indent whose words come next.
+fn nest<'a, T: DocPtr<'a>>(operands: &mut Vec<Operand<'a, T>>) -> Result<Doc<'a, T>, Refusal> {
     let word = take_word(operands, Expected::Offset)?;
     let offset = offset(word).ok_or(Expected::Offset)?;
-    let inner = take_document(operands)?;
-    put(place, Doc::Nest(offset, inner))
+    Ok(Doc::Nest(offset, take_document(operands)?))
 }
 
-// A node with a document below it, and nothing else.
-fn make_wrapped<'a>(
-    place: &'a Place<'a>,
-    wrapper: Wrapper,
-    operands: &mut Vec<Operand<'a>>,
-) -> Result<Pointer<'a>, Refusal>
-    ensures ok { IfOk result (λ d.
-        Makes (operators.Wrapper wrapper) (items_of operands.old.items) (pointer_tree d) (items_of operands.new.items)) }
-    ensures err { IfErr result (λ e. RefusesWith e ((d : Tree) (rest : List OperandItem)
-        → Makes (operators.Wrapper wrapper) (items_of operands.old.items) d rest → ⊥)) }
-{
-    let inner = take_document(operands)?;
-    put(place, wrapper.doc(inner))
-}
-
-// A node with two documents below it.
-fn make_joined<'a>(
-    place: &'a Place<'a>,
-    join: Join,
-    operands: &mut Vec<Operand<'a>>,
-) -> Result<Pointer<'a>, Refusal>
-    ensures ok { IfOk result (λ d.
-        Makes (operators.Join join) (items_of operands.old.items) (pointer_tree d) (items_of operands.new.items)) }
-    ensures err { IfErr result (λ e. RefusesWith e ((d : Tree) (rest : List OperandItem)
-        → Makes (operators.Join join) (items_of operands.old.items) d rest → ⊥)) }
-{
+// The two documents that come next.
+fn take_two<T: Drop>(operands: &mut Vec<Operand<'_, T>>) -> Result<(T, T), Refusal> {
     let first = take_document(operands)?;
-    let second = take_document(operands)?;
-    put(place, join.doc(first, second))
+    Ok((first, take_document(operands)?))
 }
 
-// A choice by column.
-fn make_by_column<'a>(
-    place: &'a Place<'a>,
-    operands: &mut Vec<Operand<'a>>,
-) -> Result<Pointer<'a>, Refusal>
-    ensures ok { IfOk result (λ d. Makes operators.OnColumn (items_of operands.old.items) (pointer_tree d) (items_of operands.new.items)) }
-    ensures err { IfErr result (λ e. RefusesWith e ((d : Tree) (rest : List OperandItem)
-        → Makes operators.OnColumn (items_of operands.old.items) d rest → ⊥)) }
-{
-    let test = take_column_test(operands)?;
-    let first = take_document(operands)?;
-    let second = take_document(operands)?;
-    put(place, Doc::OnColumn(test, first, second))
-}
-
-// A choice by nesting.
-fn make_by_nesting<'a>(
-    place: &'a Place<'a>,
-    operands: &mut Vec<Operand<'a>>,
-) -> Result<Pointer<'a>, Refusal>
-    ensures ok { IfOk result (λ d. Makes operators.OnNesting (items_of operands.old.items) (pointer_tree d) (items_of operands.new.items)) }
-    ensures err { IfErr result (λ e. RefusesWith e ((d : Tree) (rest : List OperandItem)
-        → Makes operators.OnNesting (items_of operands.old.items) d rest → ⊥)) }
-{
-    let test = take_nesting_test(operands)?;
-    let first = take_document(operands)?;
-    let second = take_document(operands)?;
-    put(place, Doc::OnNesting(test, first, second))
-}
-
-// Takes what comes after an operator, and makes the operator's document of it.
-fn make<'a>(
-    place: &'a Place<'a>,
+// The operator's node over what comes after it.
+fn node<'a, T: DocPtr<'a>>(
+    alloc: Global,
     operator: Operator,
-    operands: &mut Vec<Operand<'a>>,
-) -> Result<Pointer<'a>, Refusal>
-    ensures ok { IfOk result (λ d. Makes operator (items_of operands.old.items) (pointer_tree d) (items_of operands.new.items)) }
-    ensures err { IfErr result (λ e. RefusesWith e ((d : Tree) (rest : List OperandItem)
-        → Makes operator (items_of operands.old.items) d rest → ⊥)) }
-{
+    operands: &mut Vec<Operand<'a, T>>,
+) -> Result<Doc<'a, T>, Refusal> {
     match operator {
-        Operator::Text => make_text(place, operands),
-        Operator::TextWithLen => make_counted_text(place, operands),
-        Operator::Payload => make_payload(place, operands),
-        Operator::Nest => make_nest(place, operands),
-        Operator::Wrapper(wrapper) => make_wrapped(place, wrapper, operands),
-        Operator::Join(join) => make_joined(place, join, operands),
-        Operator::OnColumn => make_by_column(place, operands),
-        Operator::OnNesting => make_by_nesting(place, operands),
+        Operator::Text => Ok(Doc::Text(take_text(alloc, operands)?)),
+        Operator::TextWithLen => {
+            let width = take_number(operands, Expected::Columns)?;
+            Ok(Doc::TextWithLen(width, take_text(alloc, operands)?))
+        }
+        Operator::Payload => payload(alloc, operands),
+        Operator::Nest => nest(operands),
+        Operator::Wrapper(wrapper) => Ok(wrapper.doc(take_document(operands)?)),
+        Operator::Join(join) => {
+            let (first, second) = take_two(operands)?;
+            Ok(join.doc(first, second))
+        }
+        Operator::OnColumn => {
+            let test = take_column_test(operands)?;
+            let (first, second) = take_two(operands)?;
+            Ok(Doc::OnColumn(test, first, second))
+        }
+        Operator::OnNesting => {
+            let test = take_nesting_test(operands)?;
+            let (first, second) = take_two(operands)?;
+            Ok(Doc::OnNesting(test, first, second))
+        }
     }
 }
 
-// Puts one word more in front: it names a node, or an operator, which makes a document of what comes after it.
-fn put_in_front<'a>(
-    place: &'a Place<'a>,
+// Puts one word more in front: it names a node, or an operator, which makes a node over what comes after it.
+fn put_in_front<'a, D: DocPlace<'a>>(
+    place: &'a D,
     word: &'a [u8],
-    operands: &mut Vec<Operand<'a>>,
-) -> Result<(), Refusal>
-    ensures ok { OnOk result (Steps word.now (items_of operands.old.items) (items_of operands.new.items)) }
-    ensures err { IfErr result (λ e. RefusesWith e ((new : List OperandItem) → Steps word.now (items_of operands.old.items) new → ⊥)) }
-{
+    operands: &mut Vec<Operand<'a, D::Doc>>,
+) -> Result<(), Refusal> {
     let operand = match leaf_named(word) {
-        Some(leaf) => Operand::Document(put(place, leaf.doc())?),
+        Some(leaf) => Operand::Document(place.alloc(leaf.doc())?),
         None => match operator_named(word) {
-            Some(operator) => Operand::Document(make(place, operator, operands)?),
+            Some(operator) => {
+                let node = node(place.memory(), operator, operands)?;
+                Operand::Document(place.alloc(node)?)
+            }
             None => Operand::Word(word),
         },
     };
@@ -209,16 +98,13 @@ fn put_in_front<'a>(
 }
 
 /// The document that the words write, all of them.
-pub fn read_document<'a>(place: &'a Place<'a>, words: &[&'a [u8]]) -> Result<Pointer<'a>, Refusal>
-    ensures ok { IfOk result (λ d. IsSpelled (pointer_tree d) (map (λ w. w.now) words.now)) }
-    ensures only { IfOk result (λ d. (t : Tree) → IsSpelled t (map (λ w. w.now) words.now) → t ≡ pointer_tree d) }
-    ensures err { IfErr result (λ e. RefusesWith e ((t : Tree) → IsSpelled t (map (λ w. w.now) words.now) → ⊥)) }
-{
+pub fn read_document<'a, D: DocPlace<'a>>(
+    place: &'a D,
+    words: &[&'a [u8]],
+) -> Result<D::Doc, Refusal> {
     let mut operands = Vec::new(place.memory());
-    let mut at = words.len();
-    while at > 0 {
-        at -= 1;
-        put_in_front(place, words[at], &mut operands)?;
+    for &word in words.iter().rev() {
+        put_in_front(place, word, &mut operands)?;
     }
     let document = take_document(&mut operands)?;
     if operands.is_empty() {

@@ -1,47 +1,38 @@
-ghost use Rattle.std.specs.Prelude.{◌≡◌};
-ghost use Rattle.replay_cases.specs.declared.refusal.Refusal.TheVariants.{NotACase, OutOfMemory};
-
 use crate::expected::Expected;
 use hex::FromHexError;
 use prettyless::text::BuildError;
 use std::alloc::{AllocError, AllocFailed};
 
 /// Why a line has no outcome.
-#[derive(Clone, Copy, Debug, PartialEq, Eq)]
+#[derive(Debug, Drop)]
 pub enum Refusal {
     /// It writes no case.
     NotACase(Expected),
     /// Memory was refused.
     OutOfMemory,
+    /// Its case comes out otherwise than it states, or than it has to: how it does.
+    Differs(String),
 }
 
 impl From<Expected> for Refusal {
-    ghost from_gives = { λ e r. r ≡ NotACase e };
-
     fn from(expected: Expected) -> Refusal {
         Refusal::NotACase(expected)
     }
 }
 
 impl From<AllocError> for Refusal {
-    ghost from_gives = { λ _ r. r ≡ OutOfMemory };
-
     fn from(_error: AllocError) -> Refusal {
         Refusal::OutOfMemory
     }
 }
 
 impl<T: Drop> From<AllocFailed<T>> for Refusal {
-    ghost from_gives = { λ _ r. r ≡ OutOfMemory };
-
     fn from(_error: AllocFailed<T>) -> Refusal {
         Refusal::OutOfMemory
     }
 }
 
 impl From<BuildError> for Refusal {
-    ghost from_gives = { λ _ r. r ≡ OutOfMemory };
-
     // A node is refused only where memory is refused.
     fn from(_error: BuildError) -> Refusal {
         Refusal::OutOfMemory
@@ -49,10 +40,6 @@ impl From<BuildError> for Refusal {
 }
 
 impl From<FromHexError> for Refusal {
-    ghost use Rattle.replay_cases.specs.Refusals.{hex_refusal};
-
-    ghost from_gives = { λ e r. r ≡ hex_refusal e };
-
     fn from(error: FromHexError) -> Refusal {
         match error {
             FromHexError::OutOfMemory => Refusal::OutOfMemory,

@@ -1,22 +1,18 @@
 //! What the words of `replay` ask for, and how a run of it ends.
-ghost use Rattle.std.specs.Prelude.{◌≡◌};
-ghost use Rattle.replay_cases.specs.Requests.{Asks, AsksRandom, ending_message, ending_status};
-ghost use Rattle.replay_cases.specs.declared.request.ReplayEnd.TheVariants.{Failed};
-
+use crate::answer::Asked;
 use decimals::number;
 use std::io;
 
 /// How `replay` is used.
 pub const USAGE: &str =
-    "usage: replay [--help | --twice | --random SEED COUNT], with cases on standard input, one a line (docs/CASES.md)";
+    "usage: replay [--twice] [--hostile] [--answers], with cases on standard input, one a line (docs/CASES.md)
+       replay --random SEED COUNT | --help";
 
 /// What `replay` is asked for.
 #[derive(Clone, Copy, Debug, PartialEq, Eq)]
 pub enum Request {
     /// Answers to the cases of standard input.
-    Replay,
-    /// The same, with each case laid out twice.
-    ReplayTwice,
+    Replay(Asked),
     /// The layouts of random cases in two ways: the seed that they come of, and how many.
     Random(usize, usize),
     /// The usage.
@@ -24,27 +20,35 @@ pub enum Request {
 }
 
 // Random cases of the seed and as many as these words write.
-fn random(seed: &str, count: &str) -> Option<Request>
-    ensures { AsksRandom seed.now count.now result }
-{
+fn random(seed: &str, count: &str) -> Option<Request> {
     let seed = number(seed.as_bytes())?;
     let count = number(count.as_bytes())?;
     Some(Request::Random(seed, count))
 }
 
-/// What the words of `replay` ask for: cases, where there is none, or help, by `--help` alone, or cases that are laid out twice,
-/// by `--twice` alone, or random ones, by `--random`, a seed and how many.
-pub fn requested(words: &[String]) -> Option<Request>
-    ensures { Asks words.now result }
-{
+// What is asked of the cases of standard input, where each word asks for something.
+fn asked(words: &[String]) -> Option<Asked> {
+    let mut asked = Asked::default();
+    for word in words {
+        match word.as_str() {
+            "--twice" => asked.trials.over_table = true,
+            "--hostile" => asked.trials.hostile = true,
+            "--answers" => asked.answers = true,
+            _ => return None,
+        }
+    }
+    Some(asked)
+}
+
+/// What the words of `replay` ask for: the usage, by `--help` alone, or random cases, by `--random`, a seed and how many, or cases of
+/// standard input.
+pub fn requested(words: &[String]) -> Option<Request> {
     match words {
-        [] => Some(Request::Replay),
         [word] if word.as_str() == "--help" => Some(Request::Help),
-        [word] if word.as_str() == "--twice" => Some(Request::ReplayTwice),
         [word, seed, count] if word.as_str() == "--random" => {
             random(seed.as_str(), count.as_str())
         }
-        _ => None,
+        _ => Some(Request::Replay(asked(words)?)),
     }
 }
 
@@ -55,36 +59,33 @@ pub enum ReplayEnd {
     Words,
     /// The words or the input were not read, or an answer was not written.
     Failed(io::Error),
-    /// A random case came out otherwise over a table.
+    /// A case is otherwise than its line states.
+    Differs,
+    /// A random case comes out otherwise over a table.
     Otherwise,
 }
 
 impl ReplayEnd {
     /// What is written to standard error.
-    pub fn message(&self) -> &'static str
-        ensures { result.now ≡ ending_message self.now }
-    {
+    pub fn message(&self) -> &'static str {
         match self {
             ReplayEnd::Words => USAGE,
             ReplayEnd::Failed(_) => "error: reading or writing failed",
+            ReplayEnd::Differs => "error: a case is otherwise than stated",
             ReplayEnd::Otherwise => "error: a random case comes out otherwise over a table",
         }
     }
 
     /// The status that `replay` ends with.
-    pub fn status(&self) -> u8
-        ensures { result ≡ ending_status self.now }
-    {
+    pub fn status(&self) -> u8 {
         match self {
             ReplayEnd::Words => 2,
-            ReplayEnd::Failed(_) | ReplayEnd::Otherwise => 1,
+            ReplayEnd::Failed(_) | ReplayEnd::Differs | ReplayEnd::Otherwise => 1,
         }
     }
 }
 
 impl From<io::Error> for ReplayEnd {
-    ghost from_gives = { λ e r. r ≡ Failed e };
-
     fn from(error: io::Error) -> ReplayEnd {
         ReplayEnd::Failed(error)
     }

@@ -1,23 +1,24 @@
 //! The constants of an arena: each has one node there, and where memory was refused for them they are placed as other nodes.
 use crate::checks::check;
 use crate::places::{CountedPlace, InArena, in_arena};
-use crate::reader::read;
 use bumpalo::Bump;
-use prettyless::text::BuildError;
+use prettyless::text::{BuildError, Text};
 use prettyless::{Constant, Doc, DocAllocator, DocBuilder, DocPlace, DocPtr};
 use std::process::Abort;
 use std::test::Fail;
 
 // Constants, and a node that is the same as each of them.
-const LEAVES: [(Constant, &str); 7] = [
-    (Constant::Nil, "Nil"),
-    (Constant::Fail, "Fail"),
-    (Constant::Space, "Text ' '"),
-    (Constant::WeakSpace, "WeakSpace"),
-    (Constant::HardLine, "HardLine"),
-    (Constant::WeakLine, "WeakLine"),
-    (Constant::ExpandParent, "ExpandParent"),
-];
+fn leaves<'a, T>() -> [(Constant, Doc<'a, T>); 7] {
+    [
+        (Constant::Nil, Doc::Nil),
+        (Constant::Fail, Doc::Fail),
+        (Constant::Space, Doc::Text(Text::Borrowed(" "))),
+        (Constant::WeakSpace, Doc::WeakSpace),
+        (Constant::HardLine, Doc::HardLine),
+        (Constant::WeakLine, Doc::WeakLine),
+        (Constant::ExpandParent, Doc::ExpandParent),
+    ]
+}
 
 // Whether a place has one node for the constant.
 fn has<'a, D: DocPlace<'a>>(place: &'a D, which: Constant) -> bool {
@@ -25,11 +26,11 @@ fn has<'a, D: DocPlace<'a>>(place: &'a D, which: Constant) -> bool {
 }
 
 // The place has each constant, and places nothing for a node that is the same.
-fn leaves<'a, D: CountedPlace<'a>>(rt: &impl Abort, place: &'a D) -> Result<(), Fail> {
-    for (which, written) in LEAVES {
-        check(rt, has(place, which), "the constant", written);
-        read(place, written)?;
-        check(rt, place.has_no_node(), "the nodes", written);
+fn place_leaves<'a, D: CountedPlace<'a>>(rt: &impl Abort, place: &'a D) -> Result<(), Fail> {
+    for (which, leaf) in leaves() {
+        check(rt, has(place, which), "the place", "a constant");
+        place.alloc(leaf)?;
+        check(rt, place.has_no_node(), "the nodes", "a constant");
     }
     Ok(())
 }
@@ -55,15 +56,14 @@ fn lines<'a, D: CountedPlace<'a>>(rt: &impl Abort, place: &'a D) -> Result<(), F
     Ok(())
 }
 
-// Other texts of spaces, and what only contains constants.
-const OTHERS: [&str; 3] = ["Text '  '", "TextWithLen 1 ' '", "Append Text ' ' Text ' '"];
-
-// They have a node each.
+// Another text of spaces, one whose width is counted, and a node over constants have a node each.
 fn others<'a, D: CountedPlace<'a>>(rt: &impl Abort, place: &'a D) -> Result<(), Fail> {
-    for written in OTHERS {
-        read(place, written)?;
-    }
-    check(rt, place.nodes() == OTHERS.len(), "the nodes", "others");
+    place.alloc(Doc::Text(Text::Borrowed("  ")))?;
+    place.alloc(Doc::TextWithLen(1, Text::Borrowed(" ")))?;
+    let first = place.alloc(Doc::Text(Text::Borrowed(" ")))?;
+    let second = place.alloc(Doc::Text(Text::Borrowed(" ")))?;
+    place.alloc(Doc::Append(first, second))?;
+    check(rt, place.nodes() == 3, "the nodes", "others");
     Ok(())
 }
 
@@ -71,7 +71,7 @@ pub(crate) fn one_node_each<'a, D: CountedPlace<'a>>(
     rt: &impl Abort,
     place: &'a D,
 ) -> Result<(), Fail> {
-    leaves(rt, place)?;
+    place_leaves(rt, place)?;
     lines(rt, place)?;
     others(rt, place)
 }
@@ -96,12 +96,8 @@ pub(crate) fn no_room_at_first<'a, D: CountedPlace<'a>>(
     bump: &Bump,
     place: &'a D,
 ) -> Result<(), Fail> {
-    check(
-        rt,
-        !has(place, Constant::HardLine),
-        "the constant",
-        "no room",
-    );
+    let has_line = has(place, Constant::HardLine);
+    check(rt, !has_line, "the constant", "no room");
     check(rt, refuses_a_line(place), "the line", "no room");
     check(rt, place.has_no_node(), "the nodes", "no room");
     bump.set_allocation_limit(None);

@@ -1,12 +1,10 @@
 //! The places that the tests put their nodes in. Each kind of place is made in one function, to which a test gives what it does
 //! there: a place that is made costs the prover more than what is done with it.
-use crate::over::Over;
-use crate::sinks::{Step, Wrong};
-use crate::trees::Tree;
-use crate::{constants, pieces, refusals, sinks, trees, writers};
+use crate::{constants, refusals, shown};
 use bumpalo::Bump;
-use prettyless::{Arena, BoxAllocator, DocPlace};
+use prettyless::{Arena, BoxAllocator, DocPlace, RcAllocator};
 use std::alloc::Global;
+use std::fmt;
 use std::process::Abort;
 use std::test::Fail;
 
@@ -29,26 +27,29 @@ impl<'a> CountedPlace<'a> for Arena<'a> {
 
 // What is done in an arena.
 #[derive(Clone, Copy)]
-pub(crate) enum InArena<'a> {
+pub(crate) enum InArena {
     Constants,
     ConstantsWithoutRoom,
     OwnedTexts,
     Payloads,
-    Tree(&'a Tree<'a>, Over, &'a str),
+    Shown,
 }
 
 fn done_in_arena<'a, D: CountedPlace<'a>>(
     rt: &impl Abort,
     bump: &Bump,
     place: &'a D,
-    what: InArena<'a>,
-) -> Result<(), Fail> {
+    what: InArena,
+) -> Result<(), Fail>
+where
+    D::Doc: fmt::Debug,
+{
     match what {
         InArena::Constants => constants::one_node_each(rt, place),
         InArena::ConstantsWithoutRoom => constants::no_room_at_first(rt, bump, place),
         InArena::OwnedTexts => refusals::texts(rt, bump, place),
         InArena::Payloads => refusals::measures(rt, place),
-        InArena::Tree(tree, over, written) => trees::compare(rt, place, tree, over, written),
+        InArena::Shown => shown::compare_making(rt, place),
     }
 }
 
@@ -57,7 +58,7 @@ pub(crate) fn in_arena(
     rt: &impl Abort,
     memory: Global,
     limit: Option<usize>,
-    what: InArena<'_>,
+    what: InArena,
 ) -> Result<(), Fail> {
     let bump = Bump::new(memory);
     bump.set_allocation_limit(limit);
@@ -68,36 +69,30 @@ pub(crate) fn in_arena(
 // What is done with boxes.
 #[derive(Clone, Copy)]
 pub(crate) enum InBoxes {
-    Pieces,
-    Sinks(Step, Wrong),
-    Characters,
-    CountsOfSpaces,
-    FullSinks,
-    ByteWriters(writers::Wrong),
-    CharacterOfBytes,
-    TextWriters,
     FullTexts,
+    Shown,
 }
 
 fn done_in_boxes<'a, D: DocPlace<'a>>(
     rt: &impl Abort,
     place: &'a D,
     what: InBoxes,
-) -> Result<(), Fail> {
+) -> Result<(), Fail>
+where
+    D::Doc: fmt::Debug,
+{
     match what {
-        InBoxes::Pieces => pieces::all(rt, place),
-        InBoxes::Sinks(step, wrong) => sinks::compare_rows(rt, place, step, wrong),
-        InBoxes::Characters => sinks::compare_steps(rt, place),
-        InBoxes::CountsOfSpaces => sinks::compare_bad_counts(rt, place),
-        InBoxes::FullSinks => sinks::compare_full(rt, place),
-        InBoxes::ByteWriters(wrong) => writers::compare_all_bytes(rt, place, wrong),
-        InBoxes::CharacterOfBytes => writers::compare_character(rt, place),
-        InBoxes::TextWriters => writers::compare_text_writers(rt, place),
         InBoxes::FullTexts => refusals::full_texts(rt, place),
+        InBoxes::Shown => shown::compare_making(rt, place),
     }
 }
 
 // Does this with boxes.
 pub(crate) fn in_boxes(rt: &impl Abort, memory: Global, what: InBoxes) -> Result<(), Fail> {
     done_in_boxes(rt, &BoxAllocator::new(memory), what)
+}
+
+// Shows documents that are made with counted owners.
+pub(crate) fn shown_with_owners(rt: &impl Abort, memory: Global) -> Result<(), Fail> {
+    shown::compare_making(rt, &RcAllocator::new(memory))
 }

@@ -1,6 +1,6 @@
-//! What `Debug` shows of documents, through each pointer, and of documents in the making; what an error of either kind says.
+//! What `Debug` shows of documents in the making, through each pointer, and what an error of either kind says.
 use crate::checks::check;
-use crate::compared::{Compared, compare_through};
+use crate::places::{InArena, InBoxes, in_arena, in_boxes, shown_with_owners};
 use prettyless::text::{BuildError, CowStr, Text};
 use prettyless::{BuildDoc, Constant, Doc, DocAllocator, DocPlace, PrettyError, RenderError};
 use std::alloc::Global;
@@ -8,72 +8,8 @@ use std::fmt;
 use std::process::Abort;
 use std::test::Fail;
 
-// A document as the reader takes it, and what it has to be shown as.
-type Case<'a> = (&'a str, &'a str);
-
-const NODES: &[Case<'static>] = &[
-    ("Nil", "Nil"),
-    ("Fail", "Fail"),
-    ("WeakSpace", "WeakSpace"),
-    ("HardLine", "HardLine"),
-    ("WeakLine", "WeakLine"),
-    ("ExpandParent", "ExpandParent"),
-    ("Text 'a'", "\"a\""),
-    ("TextWithLen 3 'a'", "\"a\""),
-    ("MultilineText 'a\nb\r'", "MultilineText(\"a\\nb\\r\")"),
-    (
-        "LineSuffix DedentToRoot Text 'a'",
-        "LineSuffix(DedentToRoot(\"a\"))",
-    ),
-    (
-        "Align Flatten Group Text 'a'",
-        "Align(Flatten(Group(\"a\")))",
-    ),
-    ("Nest 2 Nest -3 HardLine", "Nest(2, Nest(-3, HardLine))"),
-    (
-        "Union Text 'a' PartialUnion Text 'b' Nil",
-        "Union(\"a\", PartialUnion(\"b\", Nil))",
-    ),
-    (
-        "OnColumnAtMost 7 Text 'a' OnColumnIsNesting Nil Fail",
-        "OnColumn(AtMost(7), \"a\", OnColumn(IsNesting, Nil, Fail))",
-    ),
-    (
-        "OnNestingAtLeast 2 Text 'a' Nil",
-        "OnNesting(AtLeast(2), \"a\", Nil)",
-    ),
-];
-
-const CHAINS: &[Case<'static>] = &[
-    ("Append Text '1' Text '2'", "[\"1\", \"2\"]"),
-    (
-        "Append Append Text '1' Text '2' Append Text '3' Text '4'",
-        "[\"1\", \"2\", \"3\", \"4\"]",
-    ),
-    (
-        "Append Group Append Text 'a' HardLine Nest 1 Append Text 'b' Text 'c'",
-        "[Group([\"a\", HardLine]), Nest(1, [\"b\", \"c\"])]",
-    ),
-];
-
-const LINES: &[Case<'static>] = &[
-    ("BreakOrFlat HardLine Text ' '", "LineOrSpace"),
-    ("BreakOrFlat HardLine Nil", "LineOrNil"),
-    ("Group BreakOrFlat HardLine Text ' '", "SoftLineOrSpace"),
-    ("Group BreakOrFlat HardLine Nil", "SoftLineOrNil"),
-    ("BreakOrFlat Text 'a' Nil", "WhenBreak(\"a\")"),
-    ("BreakOrFlat Nil Text 'a'", "WhenFlat(\"a\")"),
-    ("BreakOrFlat Nil Nil", "WhenBreak(Nil)"),
-    ("BreakOrFlat Text 'b' Text 'f'", "FlatOrBreak(\"f\", \"b\")"),
-    ("Group BreakOrFlat Text 'a' Nil", "Group(WhenBreak(\"a\"))"),
-    (
-        "BreakOrFlat HardLine TextWithLen 1 ' '",
-        "FlatOrBreak(\" \", HardLine)",
-    ),
-];
-
 // Compares what `Debug` shows.
-pub(crate) fn compare_shown<T: fmt::Debug>(
+fn compare_shown<T: fmt::Debug>(
     rt: &impl Abort,
     memory: Global,
     document: &T,
@@ -81,16 +17,6 @@ pub(crate) fn compare_shown<T: fmt::Debug>(
 ) -> Result<(), Fail> {
     let printed = format!(in memory; "{document:?}")?;
     check(rt, printed.as_str() == shown, "what is shown", shown);
-    Ok(())
-}
-
-#[test]
-fn shows_documents(rt: HostRuntime) -> Result<(), Fail> {
-    for cases in [NODES, CHAINS, LINES] {
-        for &(written, shown) in cases {
-            compare_through(&rt, rt.alloc(), written, Compared::Shown(shown))?;
-        }
-    }
     Ok(())
 }
 
@@ -174,7 +100,9 @@ where
 
 #[test]
 fn shows_what_is_in_the_making(rt: HostRuntime) -> Result<(), Fail> {
-    compare_through(&rt, rt.alloc(), "Nil", Compared::Making)
+    in_boxes(&rt, rt.alloc(), InBoxes::Shown)?;
+    shown_with_owners(&rt, rt.alloc())?;
+    in_arena(&rt, rt.alloc(), None, InArena::Shown)
 }
 
 // Compares what an error says.

@@ -1,9 +1,0 @@
-pub mod Answers
-pub mod Cases
-pub mod Notation
-pub mod Outcomes
-pub mod Reading
-pub mod Pointers
-pub mod Refusals
-pub mod Requests
-pub mod Runs

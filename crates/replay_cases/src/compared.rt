@@ -1,0 +1,194 @@
+//! What comes of a case, compared with what its line states and with what comes of it in other ways.
+use crate::case::{ReadCase, read_case};
+use crate::hostile::compare_hostile;
+use crate::outcome::{Outcome, Over, laid_out};
+use crate::pieces::pieces;
+use crate::refusal::Refusal;
+use crate::statement::{Statement, VisitCounts};
+use bumpalo::Bump;
+use prettyless::{Arena, BoxAllocator, DocPlace, DocPtr, RcAllocator, Visits};
+use std::alloc::Global;
+use std::fmt;
+
+/// What is tried of a case besides its layout.
+#[derive(Clone, Copy, Debug, Default, PartialEq, Eq)]
+pub struct Trials {
+    /// Its layout over a table of all of its nodes.
+    pub over_table: bool,
+    /// Its layout by every call into sinks and writers of which one call goes wrong, and with its nodes in other places.
+    pub hostile: bool,
+}
+
+// Why a case differs: what was stated, and what was found.
+fn differs(alloc: Global, what: &str, stated: &str, found: &str) -> Refusal {
+    match format!(in alloc; "{what}stated {stated}, found {found}") {
+        Ok(text) => Refusal::Differs(text),
+        Err(_) => Refusal::OutOfMemory,
+    }
+}
+
+/// Refuses what is found where that is not what is stated.
+pub fn compare(alloc: Global, what: &str, stated: &str, found: &str) -> Result<(), Refusal> {
+    if stated == found {
+        return Ok(());
+    }
+    Err(differs(alloc, what, stated, found))
+}
+
+// The same of visits.
+fn compare_visits(
+    alloc: Global,
+    what: &str,
+    stated: Option<VisitCounts>,
+    found: Visits,
+) -> Result<(), Refusal> {
+    let VisitCounts { printer, probes } = match stated {
+        Some(counts) if counts.printer != found.printer || counts.probes != found.probes => counts,
+        _ => return Ok(()),
+    };
+    let stated = format!(in alloc; "{printer} {probes}")?;
+    let (printer, probes) = (found.printer, found.probes);
+    let found = format!(in alloc; "{printer} {probes}")?;
+    Err(differs(alloc, what, stated.as_str(), found.as_str()))
+}
+
+// Refuses more than five visits by probes for each by the printer.
+fn compare_few(alloc: Global, found: Visits) -> Result<(), Refusal> {
+    if found.probes / 5 < found.printer {
+        return Ok(());
+    }
+    let (printer, probes) = (found.printer, found.probes);
+    let found = format!(in alloc; "visits {printer} {probes}")?;
+    Err(differs(alloc, "", "few", found.as_str()))
+}
+
+// Compares the layout over a table with the one over the nodes, and its visits with what the line states of them.
+fn compare_over_table<'a, T: DocPtr<'a>>(
+    alloc: Global,
+    case: &ReadCase<T>,
+    stated: &str,
+    counts: Option<VisitCounts>,
+) -> Result<(), Refusal> {
+    let (found, visits) = laid_out(alloc, Over::Table, case)?;
+    let found = found.words(alloc)?;
+    compare(alloc, "over a table: ", stated, found.as_str())?;
+    compare_visits(alloc, "over a table: visits: ", counts, visits)
+}
+
+// Compares what the line states besides the outcome.
+fn compare_stated<'a, T: DocPtr<'a> + fmt::Debug>(
+    alloc: Global,
+    case: &ReadCase<T>,
+    statement: &Statement,
+    visits: Visits,
+) -> Result<(), Refusal> {
+    compare_visits(alloc, "visits: ", statement.visits, visits)?;
+    if statement.few {
+        compare_few(alloc, visits)?;
+    }
+    if let Some(stated) = &statement.pieces {
+        let found = pieces(alloc, case)?;
+        compare(alloc, "pieces: ", stated.as_str(), found.as_str())?;
+    }
+    if let Some(stated) = &statement.debug {
+        let document = &case.document;
+        let found = format!(in alloc; "{document:?}")?;
+        compare(alloc, "debug: ", stated.as_str(), found.as_str())?;
+    }
+    Ok(())
+}
+
+// A case with its nodes in some place, and what comes of it.
+#[derive(Drop)]
+struct Compared<T> {
+    case: ReadCase<T>,
+    outcome: Outcome,
+    visits: Visits,
+}
+
+// What comes of a case with its nodes in this place, where that is what the line states.
+fn compared_in<'a, D: DocPlace<'a>>(
+    place: &'a D,
+    words: &[&'a [u8]],
+    statement: Option<&Statement>,
+    trials: Trials,
+) -> Result<Compared<D::Doc>, Refusal>
+where
+    D::Doc: fmt::Debug,
+{
+    let alloc = place.memory();
+    let case = read_case(place, words)?;
+    let (outcome, visits) = laid_out(alloc, Over::Document, &case)?;
+    let found = outcome.words(alloc)?;
+    if let Some(statement) = statement {
+        compare(alloc, "", statement.outcome.as_str(), found.as_str())?;
+        compare_stated(alloc, &case, statement, visits)?;
+    }
+    let counts = statement.and_then(|statement| statement.table);
+    if trials.over_table || counts.is_some() {
+        compare_over_table(alloc, &case, found.as_str(), counts)?;
+    }
+    Ok(Compared {
+        case,
+        outcome,
+        visits,
+    })
+}
+
+// Compares what comes of a case with its nodes in this place with what came of it in another.
+fn compare_place<'a, D: DocPlace<'a>>(
+    place: &'a D,
+    words: &[&'a [u8]],
+    statement: Option<&Statement>,
+    trials: Trials,
+    expected: &Outcome,
+) -> Result<(), Refusal>
+where
+    D::Doc: fmt::Debug,
+{
+    let alloc = place.memory();
+    let found = compared_in(place, words, statement, trials)?;
+    let (expected, found) = (expected.words(alloc)?, found.outcome.words(alloc)?);
+    compare(
+        alloc,
+        "in another place: ",
+        expected.as_str(),
+        found.as_str(),
+    )
+}
+
+// What is longer takes too long with each of its calls in turn, and with a piece of memory for each of its nodes.
+const MOST_BYTES: usize = 256;
+
+const MOST_VISITS: u64 = 10_000;
+
+fn is_short(outcome: &Outcome, visits: Visits) -> bool {
+    outcome.bytes.len() <= MOST_BYTES
+        && visits.printer <= MOST_VISITS
+        && visits.probes <= MOST_VISITS
+}
+
+/// What comes of the case that these words write, where all that is stated and tried of it holds. Its nodes are in an arena. In
+/// hostile trials a case that is short is in boxes and with counted owners as well.
+pub fn compared(
+    alloc: Global,
+    words: &[&[u8]],
+    statement: Option<&Statement>,
+    trials: Trials,
+) -> Result<Outcome, Refusal> {
+    let bump = Bump::new(alloc);
+    let arena = Arena::new(alloc, &bump);
+    let Compared {
+        case,
+        outcome,
+        visits,
+    } = compared_in(&arena, words, statement, trials)?;
+    if trials.hostile && is_short(&outcome, visits) {
+        compare_hostile(alloc, &case, &outcome)?;
+        let boxes = BoxAllocator::new(alloc);
+        compare_place(&boxes, words, statement, trials, &outcome)?;
+        let owners = RcAllocator::new(alloc);
+        compare_place(&owners, words, statement, trials, &outcome)?;
+    }
+    Ok(outcome)
+}
