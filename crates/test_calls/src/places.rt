@@ -41,6 +41,7 @@ where
     D::Doc: fmt::Debug,
 {
     each(rt, place, ("a", "b"), &["a"], &["a", "b"]);
+    values::arrays(rt, place, ["a", "b"]);
 }
 
 // `owned` is lent to the documents. A place by reference is the same place: nodes are put there, and copied.

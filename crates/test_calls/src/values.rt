@@ -33,8 +33,15 @@ pub(crate) fn several<'a, D: DocPlace<'a>, P: Pretty<'a, D> + Copy>(
         (a, b).pretty(place) => "[\"a\", \"b\"]";
         most.pretty(place) => "[\"a\", \"b\", \"a\", \"b\", \"a\", \"b\", \"a\", \"b\", \
             \"a\", \"b\", \"a\", \"b\", \"a\", \"b\", \"a\", \"b\"]";
-        [a, b].pretty(place) => "[\"a\", \"b\"]";
     }
+}
+
+pub(crate) fn arrays<'a, D: DocPlace<'a>, P: Pretty<'a, D> + Copy>(
+    rt: &impl Abort,
+    place: &'a D,
+    pair: [P; 2],
+) {
+    shows(rt, place, pair.pretty(place), "[\"a\", \"b\"]");
 }
 
 // The value, and a note that it was asked for.
