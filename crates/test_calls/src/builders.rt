@@ -15,8 +15,7 @@ fn line<'a, D: DocPlace<'a>>(place: &'a D) -> DocBuilder<'a, D> {
 pub(crate) fn operands<'a, D: DocPlace<'a>, P: Pretty<'a, D> + Copy>(
     rt: &impl Abort,
     place: &'a D,
-    a: P,
-    b: P,
+    (a, b): (P, P),
 ) {
     rows! { shows, rt, place;
         line(place).append(a) => "[WeakLine, \"a\"]";

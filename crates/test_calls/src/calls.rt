@@ -55,22 +55,6 @@ fn marked<'a, D: DocPlace<'a>>(rt: &impl Abort, place: &'a D) -> Vec<D::Doc> {
         .expect(rt, "no marks were placed")
 }
 
-pub(crate) fn operands<'a, D: DocPlace<'a>, P: Pretty<'a, D> + Copy>(
-    rt: &impl Abort,
-    place: &'a D,
-    a: P,
-    b: P,
-) {
-    rows! { shows, rt, place;
-        place.pretty(a) => "\"a\"";
-        place.line_suffix(a) => "LineSuffix(\"a\")";
-        place.if_group_flat(a) => "WhenFlat(\"a\")";
-        place.if_group_break(a) => "WhenBreak(\"a\")";
-        place.if_column(ColumnTest::AtMost(7), a, b) => "OnColumn(AtMost(7), \"a\", \"b\")";
-        place.if_nesting(NestingTest::AtLeast(2), a, b) => "OnNesting(AtLeast(2), \"a\", \"b\")";
-    }
-}
-
 fn between<'a, D: DocPlace<'a>, P: Pretty<'a, D> + Copy, S: Pretty<'a, D> + Drop>(
     place: &'a D,
     items: &'a [P],
@@ -80,13 +64,20 @@ fn between<'a, D: DocPlace<'a>, P: Pretty<'a, D> + Copy, S: Pretty<'a, D> + Drop
 }
 
 // A separator becomes a document only where there is a gap.
-pub(crate) fn sequences<'a, D: DocPlace<'a>, P: Pretty<'a, D> + Copy>(
+pub(crate) fn operands<'a, D: DocPlace<'a>, P: Pretty<'a, D> + Copy>(
     rt: &impl Abort,
     place: &'a D,
+    (a, b): (P, P),
     one: &'a [P],
     two: &'a [P],
 ) {
     rows! { shows, rt, place;
+        place.pretty(a) => "\"a\"";
+        place.line_suffix(a) => "LineSuffix(\"a\")";
+        place.if_group_flat(a) => "WhenFlat(\"a\")";
+        place.if_group_break(a) => "WhenBreak(\"a\")";
+        place.if_column(ColumnTest::AtMost(7), a, b) => "OnColumn(AtMost(7), \"a\", \"b\")";
+        place.if_nesting(NestingTest::AtLeast(2), a, b) => "OnNesting(AtLeast(2), \"a\", \"b\")";
         place.concat(two.iter().copied()) => "[\"a\", \"b\"]";
         between(place, two, space()) => "[\"a\", \" \", \"b\"]";
         between(place, one, as_string(failing())) => "\"a\"";

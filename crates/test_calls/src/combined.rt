@@ -42,11 +42,11 @@ pub(crate) fn wrappers<'a, D: DocPlace<'a>, P: Pretty<'a, D> + Copy>(
     }
 }
 
-pub(crate) fn choices<'a, D: DocPlace<'a>, P: Pretty<'a, D> + Copy>(
+pub(crate) fn operands<'a, D: DocPlace<'a>, P: Pretty<'a, D> + Copy>(
     rt: &impl Abort,
     place: &'a D,
-    a: P,
-    b: P,
+    (a, b): (P, P),
+    two: &'a [P],
 ) {
     rows! { shows, rt, place;
         union(a, b).pretty(place) => "Union(\"a\", \"b\")";
@@ -54,16 +54,7 @@ pub(crate) fn choices<'a, D: DocPlace<'a>, P: Pretty<'a, D> + Copy>(
         flat_alt(a, b).pretty(place) => "FlatOrBreak(\"b\", \"a\")";
         if_column(ColumnTest::IsNesting, a, b).pretty(place) => "OnColumn(IsNesting, \"a\", \"b\")";
         if_nesting(NestingTest::AtLeast(2), a, b).pretty(place) => "OnNesting(AtLeast(2), \"a\", \"b\")";
-    }
-}
-
-pub(crate) fn sequences<'a, D: DocPlace<'a>, P: Pretty<'a, D> + Copy>(
-    rt: &impl Abort,
-    place: &'a D,
-    items: &'a [P],
-) {
-    rows! { shows, rt, place;
-        concat(items.iter().copied()).pretty(place) => "[\"a\", \"b\"]";
-        intersperse(space(), items.iter().copied()).pretty(place) => "[\"a\", \" \", \"b\"]";
+        concat(two.iter().copied()).pretty(place) => "[\"a\", \"b\"]";
+        intersperse(space(), two.iter().copied()).pretty(place) => "[\"a\", \" \", \"b\"]";
     }
 }

@@ -11,8 +11,7 @@ use std::process::Abort;
 fn each<'a, D: DocPlace<'a>, P: Pretty<'a, D> + Copy>(
     rt: &impl Abort,
     place: &'a D,
-    a: P,
-    b: P,
+    both: (P, P),
     one: &'a [P],
     two: &'a [P],
 )
@@ -21,30 +20,27 @@ where
 {
     calls::leaves(rt, place);
     calls::texts(rt, place);
-    calls::operands(rt, place, a, b);
-    calls::sequences(rt, place, one, two);
+    calls::operands(rt, place, both, one, two);
     builders::wrappers(rt, place);
     builders::joins(rt, place);
-    builders::operands(rt, place, a, b);
+    builders::operands(rt, place, both);
     combined::tokens(rt, place);
     combined::wrappers(rt, place, weak_line());
-    combined::choices(rt, place, a, b);
-    combined::sequences(rt, place, two);
+    combined::operands(rt, place, both, two);
     nodes::makings(rt, place);
     nodes::placings(rt, place);
     pointers::leaves(rt, place);
-    pointers::operands(rt, place, a, b);
-    pointers::sequences(rt, place, two);
+    pointers::operands(rt, place, both, two);
     values::texts(rt, place);
-    values::several(rt, place, a, b);
-    values::macros(rt, place, a, b);
+    values::several(rt, place, both);
+    values::macros(rt, place, both);
 }
 
 fn all<'a, D: DocPlace<'a>>(rt: &impl Abort, place: &'a D)
 where
     D::Doc: fmt::Debug,
 {
-    each(rt, place, "a", "b", &["a"], &["a", "b"]);
+    each(rt, place, ("a", "b"), &["a"], &["a", "b"]);
 }
 
 // `owned` is lent to the documents. A place by reference is the same place: nodes are put there, and copied.

@@ -43,24 +43,14 @@ pub(crate) fn operands<
     D: DocPlace<'a, Doc = T>,
     P: Pretty<'a, D> + Copy,
     T: DocPtr<'a> + fmt::Debug,
->(rt: &impl Abort, place: &'a D, a: P, b: P) {
+>(rt: &impl Abort, place: &'a D, (a, b): (P, P), two: &'a [P]) {
     rows! { points, rt, place;
         line(rt, place).append(place, a) => "[WeakLine, \"a\"]";
         line(rt, place).flat_alt(place, a) => "FlatOrBreak(\"a\", WeakLine)";
         T::if_column(place, ColumnTest::IsNesting, a, b) => "OnColumn(IsNesting, \"a\", \"b\")";
         T::if_nesting(place, NestingTest::AtMost(1), a, b) => "OnNesting(AtMost(1), \"a\", \"b\")";
-    }
-}
-
-pub(crate) fn sequences<
-    'a,
-    D: DocPlace<'a, Doc = T>,
-    P: Pretty<'a, D> + Copy,
-    T: DocPtr<'a> + fmt::Debug,
->(rt: &impl Abort, place: &'a D, items: &'a [P]) {
-    rows! { points, rt, place;
-        T::concat(place, items.iter().copied()) => "[\"a\", \"b\"]";
-        T::intersperse(place, items.iter().copied(), space()) => "[\"a\", \" \", \"b\"]";
+        T::concat(place, two.iter().copied()) => "[\"a\", \"b\"]";
+        T::intersperse(place, two.iter().copied(), space()) => "[\"a\", \" \", \"b\"]";
     }
 }
 

@@ -22,8 +22,7 @@ pub(crate) fn lent<'a, D: DocPlace<'a>>(rt: &impl Abort, place: &'a D, owned: &'
 pub(crate) fn several<'a, D: DocPlace<'a>, P: Pretty<'a, D> + Copy>(
     rt: &impl Abort,
     place: &'a D,
-    a: P,
-    b: P,
+    (a, b): (P, P),
 ) {
     // As many fields as a tuple may have.
     let most = (a, b, a, b, a, b, a, b, a, b, a, b, a, b, a, b);
@@ -58,8 +57,7 @@ fn around<'a, D: DocPlace<'a>, P: Pretty<'a, D> + Copy, Q: Pretty<'a, D> + Drop>
 pub(crate) fn macros<'a, D: DocPlace<'a>, P: Pretty<'a, D> + Copy>(
     rt: &impl Abort,
     place: &'a D,
-    a: P,
-    b: P,
+    (a, b): (P, P),
 ) {
     let asked = Cell::new(false);
     refuses(rt, around(place, a, as_string(failing()), &asked));

@@ -85,17 +85,20 @@ fn entries(alloc: Global) -> Result<Vec<Entry>, AllocError> {
     Ok(entries)
 }
 
+#[rattlefmt::skip]
+const LAYOUTS: &[(usize, &str)] = &[
+    (22, "user = www; # not root\nserver {\n  port = 80; # plain\n  host = example.org;\n}\n"),
+    (10, "user =\n  www; # not root\nserver {\n  port =\n    80; # plain\n  host =\n    example.org;\n}\n"),
+];
+
 #[test]
 fn entries_read_back(rt: HostRuntime) -> Result<(), Fail> {
     let alloc = rt.alloc();
     let entries = entries(alloc)?;
-    let wide = "user = www; # not root\nserver {\n  port = 80; # plain\n  host = example.org;\n}\n";
-    let narrow =
-        "user =\n  www; # not root\nserver {\n  port =\n    80; # plain\n  host =\n    example.org;\n}\n";
-    for (width, layout) in [(22, wide), (10, narrow)] {
+    for &(width, layout) in LAYOUTS {
         let mut out = String::new(alloc);
         assert!(rt; write_entries(alloc, width, entries.as_slice(), &mut out).is_ok());
-        assert_eq!(rt; out.as_str(), layout, "at {width}");
+        assert!(rt; out.as_str() == layout, "{layout} at {width}");
         assert!(rt; read(alloc, out.as_str())? == entries);
     }
     Ok(())

@@ -13,17 +13,6 @@ macro_rules! layouts {
 
 pub(crate) use layouts;
 
-// Whether a document is laid out as this, with these options.
-fn is_laid_out_as<'a, T: DocPtr<'a>>(
-    memory: Global,
-    document: &Doc<'a, T>,
-    options: RenderOptions,
-    layout: &str,
-) -> bool {
-    let mut out = String::new(memory);
-    document.render_fmt_with(memory, options, &mut out).is_ok() && out.as_str() == layout
-}
-
 // Compares what a document is laid out as with these options.
 pub(crate) fn compare_with<'a, T: DocPtr<'a>>(
     rt: &impl Abort,
@@ -31,8 +20,9 @@ pub(crate) fn compare_with<'a, T: DocPtr<'a>>(
     document: &Doc<'a, T>,
     (options, layout): (RenderOptions, &str),
 ) {
-    let same = is_laid_out_as(memory, document, options, layout);
-    assert!(rt; same, "{layout}");
+    let mut out = String::new(memory);
+    let rendered = document.render_fmt_with(memory, options, &mut out);
+    assert!(rt; rendered.is_ok() && out.as_str() == layout, "{layout}");
 }
 
 // Compares what a document is laid out as at each width.
@@ -43,8 +33,8 @@ pub(crate) fn compare_doc<'a, T: DocPtr<'a>>(
     layouts: &[(usize, &str)],
 ) {
     for &(width, layout) in layouts {
-        let same = is_laid_out_as(memory, document, RenderOptions::new(width), layout);
-        assert!(rt; same, "{layout} at {width}");
+        let options = RenderOptions::new(width);
+        compare_with(rt, memory, document, (options, layout));
     }
 }
 

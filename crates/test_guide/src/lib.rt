@@ -10,6 +10,8 @@ mod entries;
 #[cfg(test)]
 mod errors;
 #[cfg(test)]
+mod formatters;
+#[cfg(test)]
 mod indents;
 #[cfg(test)]
 mod layouts;
@@ -27,7 +29,3 @@ mod parts;
 mod rendering;
 #[cfg(test)]
 mod shapes;
-#[cfg(test)]
-mod terms;
-#[cfg(test)]
-mod values;
