@@ -2,7 +2,8 @@
 use crate::layouts::compare_with;
 use crate::parts::{Built, grouped, joined, nested, pair, pointer_to, text, with};
 use prettyless::prelude::*;
-use prettyless::{DocPtr, FmtWrite, IndentationPolicy, LineEnding, RenderOptions, Visits};
+use prettyless::{Doc, DocPtr, FmtWrite, IndentationPolicy, LineEnding, RenderOptions, Visits};
+use std::alloc::Global;
 use std::process::Abort;
 use std::test::Fail;
 
@@ -27,17 +28,21 @@ fn options_choose_line_ends_and_indents<'a, D: DocPlace<'a>>(
     Ok(())
 }
 
-fn shown<'a, D: DocPlace<'a>>(place: &'a D, built: Built<'a, D>) -> Result<String, Fail> {
-    let document = pointer_to(built)?;
-    Ok(format!(in place.memory(); "{:?}", document.doc())?)
+// Whether `{:?}` shows this of a document.
+fn is_shown_as<'a, T: DocPtr<'a>>(memory: Global, document: &Doc<'a, T>, shown: &str) -> bool {
+    match format!(in memory; "{document:?}") {
+        Ok(text) => text.as_str() == shown,
+        Err(_) => false,
+    }
 }
 
 fn documents_show_their_nodes<'a, D: DocPlace<'a>>(
     rt: &impl Abort,
     place: &'a D,
 ) -> Result<(), Fail> {
-    let nodes = shown(place, grouped(nested(pair(place, "a", "b"), 2)))?;
-    assert!(rt; nodes.as_str() == "Group(Nest(2, [\"a\", LineOrSpace, \"b\"]))");
+    let pair = pointer_to(grouped(nested(pair(place, "a", "b"), 2)))?;
+    let shown = "Group(Nest(2, [\"a\", LineOrSpace, \"b\"]))";
+    assert!(rt; is_shown_as(place.memory(), pair.doc(), shown));
     Ok(())
 }
 
