@@ -100,7 +100,7 @@ fn compare_stated<'a, T: DocPtr<'a> + fmt::Debug>(
 
 // A case with its nodes in some place, and what comes of it.
 #[derive(Drop)]
-struct Compared<T> {
+struct Laid<T> {
     case: ReadCase<T>,
     outcome: Outcome,
     visits: Visits,
@@ -112,7 +112,7 @@ fn compared_in<'a, D: DocPlace<'a>>(
     words: &[&'a [u8]],
     statement: Option<&Statement>,
     trials: Trials,
-) -> Result<Compared<D::Doc>, Refusal>
+) -> Result<Laid<D::Doc>, Refusal>
 where
     D::Doc: fmt::Debug,
 {
@@ -128,7 +128,7 @@ where
     if trials.over_table || counts.is_some() {
         compare_over_table(alloc, &case, found.as_str(), counts)?;
     }
-    Ok(Compared {
+    Ok(Laid {
         case,
         outcome,
         visits,
@@ -178,7 +178,7 @@ pub fn compared(
 ) -> Result<Outcome, Refusal> {
     let bump = Bump::new(alloc);
     let arena = Arena::new(alloc, &bump);
-    let Compared {
+    let Laid {
         case,
         outcome,
         visits,

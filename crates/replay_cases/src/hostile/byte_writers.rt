@@ -91,7 +91,7 @@ impl IntoWriter {
     }
 }
 
-impl Way for IntoWriter {
+impl<'a, T: DocPtr<'a>> Way<'a, T> for IntoWriter {
     fn call(&self) -> &'static str {
         match self.call {
             Call::RawWith => "render_raw_with of IoWrite",
@@ -108,11 +108,7 @@ impl Way for IntoWriter {
         }
     }
 
-    fn tried<'a, T: DocPtr<'a>>(
-        &self,
-        laying: &Laying<'_, 'a, T>,
-        number: usize,
-    ) -> Result<Tried, AllocError> {
+    fn tried(&self, laying: &Laying<'_, 'a, T>, number: usize) -> Result<Tried, AllocError> {
         let mut writer = Writer {
             takes_all: self.takes_all,
             wrong: self.wrong,

@@ -98,7 +98,7 @@ pub struct Tried {
 }
 
 /// A call that renders to a sink or a writer, and what goes wrong there.
-pub trait Way {
+pub trait Way<'a, T: DocPtr<'a>> {
     /// The call.
     fn call(&self) -> &'static str;
 
@@ -106,11 +106,7 @@ pub trait Way {
     fn wrong(&self) -> &'static str;
 
     /// Renders to one of which the call of this number goes wrong.
-    fn tried<'a, T: DocPtr<'a>>(
-        &self,
-        laying: &Laying<'_, 'a, T>,
-        number: usize,
-    ) -> Result<Tried, AllocError>;
+    fn tried(&self, laying: &Laying<'_, 'a, T>, number: usize) -> Result<Tried, AllocError>;
 }
 
 impl<'a, T: DocPtr<'a>> Laying<'_, 'a, T> {
@@ -144,7 +140,7 @@ impl<'a, T: DocPtr<'a>> Laying<'_, 'a, T> {
     }
 
     // Refuses a render that ended otherwise than it had to.
-    fn differs(&self, way: &impl Way, record: &Record) -> Refusal {
+    fn differs(&self, way: &impl Way<'a, T>, record: &Record) -> Refusal {
         let Ok(bytes) = word_of(self.alloc, record.bytes.as_slice()) else {
             return Refusal::OutOfMemory;
         };
@@ -160,7 +156,7 @@ impl<'a, T: DocPtr<'a>> Laying<'_, 'a, T> {
 
     /// Refuses the case where a render by this call ends otherwise than it has to. Each call of the sink or the writer goes wrong
     /// in turn, up to one that the render does not come to.
-    pub fn compare(&self, way: &impl Way) -> Result<(), Refusal> {
+    pub fn compare(&self, way: &impl Way<'a, T>) -> Result<(), Refusal> {
         for number in 1..=self.outcome.bytes.len() {
             let Tried { record, is_right } = way.tried(self, number)?;
             if !is_right {

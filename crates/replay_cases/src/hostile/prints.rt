@@ -51,7 +51,7 @@ impl Printing {
     }
 }
 
-impl Way for Printing {
+impl<'a, T: DocPtr<'a>> Way<'a, T> for Printing {
     fn call(&self) -> &'static str {
         match self.call {
             Call::PrintWith => "print_with",
@@ -68,11 +68,7 @@ impl Way for Printing {
         }
     }
 
-    fn tried<'a, T: DocPtr<'a>>(
-        &self,
-        laying: &Laying<'_, 'a, T>,
-        number: usize,
-    ) -> Result<Tried, AllocError> {
+    fn tried(&self, laying: &Laying<'_, 'a, T>, number: usize) -> Result<Tried, AllocError> {
         let mut writer = Writer {
             record: Record::new(laying.alloc, number),
             is_refused: false,

@@ -170,7 +170,7 @@ struct IntoSink {
     wrong: Wrong,
 }
 
-impl Way for IntoSink {
+impl<'a, T: DocPtr<'a>> Way<'a, T> for IntoSink {
     fn call(&self) -> &'static str {
         self.call.name()
     }
@@ -179,11 +179,7 @@ impl Way for IntoSink {
         self.wrong.name()
     }
 
-    fn tried<'a, T: DocPtr<'a>>(
-        &self,
-        laying: &Laying<'_, 'a, T>,
-        number: usize,
-    ) -> Result<Tried, AllocError> {
+    fn tried(&self, laying: &Laying<'_, 'a, T>, number: usize) -> Result<Tried, AllocError> {
         let mut sink = Sink {
             step: self.step,
             wrong: self.wrong,
