@@ -1,8 +1,11 @@
 #!/bin/sh
 # test.sh OUT: runs the programs of the folder OUT, and compares what they write. `make test` calls it.
 set -eu
-out=$1 cases=../../crates/replay
+out=$1
 failures=0
+# Each stored case up to those that are written as replay alone reads them, and what it states.
+sed '/^# Cases of replay alone/,$d' ../../crates/replay/stdin >"$out/cases"
+sed '/^#/d; /^$/d; s/.* => //; s/^error.*/error/' "$out/cases" >"$out/expected"
 
 # run PROGRAM WIDTH INPUT: what the program writes, and its status after a dot. The input is a format of printf.
 run() {
@@ -37,8 +40,7 @@ for kind in '' _cpp; do
     for words in 1x -1 '1 2' 18446744073709551616; do
         expect $example "$words" '' 'usage: example [WIDTH] <FILE\n' 2
     done
-    sed 's/^error .*/error/' $cases/stdout >"$out/expected"
-    "$out/replay$kind" <$cases/stdin >"$out/answers"
+    "$out/replay$kind" <"$out/cases" >"$out/answers"
     cmp "$out/expected" "$out/answers" || failures=$((failures + 1))
 done
 [ $failures -eq 0 ] || exit 1
