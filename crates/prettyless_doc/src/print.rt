@@ -24,7 +24,7 @@ impl<'a, T: DocPtr<'a>> Doc<'a, T> {
     /// The document, to be printed at this width, in columns.
     ///
     /// ```
-    /// println!(rt; "{}", doc.print(alloc, 80))?;
+    /// format!(in alloc; "{}", doc.print(alloc, 80))? // the layout
     /// ```
     pub fn print<'d>(&'d self, alloc: Global, width: usize) -> PrettyFmt<'a, 'd, T>
         ensures options { result.options ≡ options_at width }
@@ -38,7 +38,7 @@ impl<'a, T: DocPtr<'a>> Doc<'a, T> {
     /// The document, to be printed with these options.
     ///
     /// ```
-    /// println!(rt; "{}", doc.print_with(alloc, RenderOptions::default()))?;
+    /// format!(in alloc; "{}", doc.print_with(alloc, RenderOptions::default()))? // the layout
     /// ```
     pub fn print_with<'d>(&'d self, alloc: Global, options: RenderOptions) -> PrettyFmt<'a, 'd, T>
         ensures options { result.options ≡ options }

@@ -59,8 +59,8 @@ impl<'a, T: DocPtr<'a>> Doc<'a, T> {
     /// branch of a union counts nothing, and neither does the document of a line suffix. A branch that is kept counts.
     ///
     /// ```
-    /// let mut visits = Visits::default();
-    /// doc.render_raw_counted_with(alloc, RenderOptions::new(80), &mut FmtWrite::new(&mut text), &mut visits)?;
+    /// let (options, mut visits) = (RenderOptions::new(80), Visits::default());
+    /// doc.render_raw_counted_with(alloc, options, &mut FmtWrite::new(&mut text), &mut visits)?; // `text` grew by the layout
     /// ```
     pub fn render_raw_counted_with<W: Render>(
         &self,

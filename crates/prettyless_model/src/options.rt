@@ -92,7 +92,7 @@ impl RenderOptions {
     /// These options at another width, in columns.
     ///
     /// ```
-    /// RenderOptions::default().with_width(100)
+    /// RenderOptions::default().with_width(100) // 100 columns
     /// ```
     pub fn with_width(self, width: usize) -> Self
         ensures { result ≡ record self { width = width } }
@@ -103,7 +103,7 @@ impl RenderOptions {
     /// These options with another end of lines.
     ///
     /// ```
-    /// RenderOptions::new(80).with_line_ending(LineEnding::Crlf)
+    /// RenderOptions::new(80).with_line_ending(LineEnding::Crlf) // CR LF
     /// ```
     pub fn with_line_ending(self, line_ending: LineEnding) -> Self
         ensures { result ≡ record self { line_ending = line_ending } }
@@ -117,7 +117,7 @@ impl RenderOptions {
     /// These options with indents written by another policy.
     ///
     /// ```
-    /// RenderOptions::new(80).with_indentation_policy(IndentationPolicy::Deferred)
+    /// RenderOptions::new(80).with_indentation_policy(IndentationPolicy::Deferred) // deferred indents
     /// ```
     pub fn with_indentation_policy(self, indentation_policy: IndentationPolicy) -> Self
         ensures { result ≡ record self { indentation_policy = indentation_policy } }
