@@ -44,9 +44,9 @@ fn answer_case(
     alloc: Global,
     trials: Trials,
     number: u64,
-    words: &[&[u8]],
+    line: &[u8],
 ) -> Result<Answer, AllocError> {
-    match compared(alloc, words, None, trials) {
+    match compared(alloc, line, None, trials) {
         Ok(outcome) => Ok(Answer::Outcome(outcome.words(alloc)?)),
         Err(Refusal::NotACase(expected)) => {
             Ok(Answer::Outcome(complaint(alloc, number, expected)?))
@@ -60,11 +60,11 @@ fn answer_case(
 fn compare_case(
     alloc: Global,
     trials: Trials,
-    words: &[&[u8]],
+    line: &[u8],
     stated: &[&[u8]],
 ) -> Result<(), Refusal> {
     let statement = Statement::new(alloc, stated)?;
-    match compared(alloc, words, Some(&statement), trials) {
+    match compared(alloc, line, Some(&statement), trials) {
         Ok(_) => Ok(()),
         Err(Refusal::NotACase(expected)) => {
             let found = error_words(alloc, expected.description())?;
@@ -84,12 +84,12 @@ pub fn answered(
     if matches!(line, [] | [b'#', ..]) {
         return Ok(Answer::Nothing);
     }
-    let line = Line::new(alloc, line)?;
-    let stated = match &line.stated {
+    let words = Line::new(alloc, line)?;
+    let stated = match &words.stated {
         Some(stated) if !asked.answers => stated,
-        _ => return answer_case(alloc, asked.trials, number, &line.case),
+        _ => return answer_case(alloc, asked.trials, number, line),
     };
-    match compare_case(alloc, asked.trials, &line.case, stated) {
+    match compare_case(alloc, asked.trials, line, stated) {
         Ok(()) => Ok(Answer::AsStated),
         Err(Refusal::NotACase(expected)) => {
             let words = error_words(alloc, expected.description())?;

@@ -5,6 +5,7 @@ use crate::outcome::{Outcome, Over, laid_out};
 use crate::pieces::pieces;
 use crate::refusal::Refusal;
 use crate::statement::{Statement, VisitCounts};
+use crate::words::Line;
 use bumpalo::Bump;
 use prettyless::{Arena, BoxAllocator, DocPlace, DocPtr, RcAllocator, Visits};
 use std::alloc::Global;
@@ -109,7 +110,7 @@ struct Laid<T> {
 // What comes of a case with its nodes in this place, where that is what the line states.
 fn compared_in<'a, D: DocPlace<'a>>(
     place: &'a D,
-    words: &[&'a [u8]],
+    line: &'a [u8],
     statement: Option<&Statement>,
     trials: Trials,
 ) -> Result<Laid<D::Doc>, Refusal>
@@ -117,7 +118,8 @@ where
     D::Doc: fmt::Debug,
 {
     let alloc = place.memory();
-    let case = read_case(place, words)?;
+    let line = Line::new(alloc, line)?;
+    let case = read_case(place, &line.case)?;
     let (outcome, visits) = laid_out(alloc, Over::Document, &case)?;
     let found = outcome.words(alloc)?;
     if let Some(statement) = statement {
@@ -138,7 +140,7 @@ where
 // Compares what comes of a case with its nodes in this place with what came of it in another.
 fn compare_place<'a, D: DocPlace<'a>>(
     place: &'a D,
-    words: &[&'a [u8]],
+    line: &'a [u8],
     statement: Option<&Statement>,
     trials: Trials,
     expected: &Outcome,
@@ -147,7 +149,7 @@ where
     D::Doc: fmt::Debug,
 {
     let alloc = place.memory();
-    let found = compared_in(place, words, statement, trials)?;
+    let found = compared_in(place, line, statement, trials)?;
     let (expected, found) = (expected.words(alloc)?, found.outcome.words(alloc)?);
     compare(
         alloc,
@@ -168,11 +170,11 @@ fn is_short(outcome: &Outcome, visits: Visits) -> bool {
         && visits.probes <= MOST_VISITS
 }
 
-/// What comes of the case that these words write, where all that is stated and tried of it holds. Its nodes are in an arena. In
+/// What comes of the case of this line, where all that is stated and tried of it holds. Its nodes are in an arena. In
 /// hostile trials a case that is short is in boxes and with counted owners as well.
 pub fn compared(
     alloc: Global,
-    words: &[&[u8]],
+    line: &[u8],
     statement: Option<&Statement>,
     trials: Trials,
 ) -> Result<Outcome, Refusal> {
@@ -182,13 +184,13 @@ pub fn compared(
         case,
         outcome,
         visits,
-    } = compared_in(&arena, words, statement, trials)?;
+    } = compared_in(&arena, line, statement, trials)?;
     if trials.hostile && is_short(&outcome, visits) {
         compare_hostile(alloc, &case, &outcome)?;
         let boxes = BoxAllocator::new(alloc);
-        compare_place(&boxes, words, statement, trials, &outcome)?;
+        compare_place(&boxes, line, statement, trials, &outcome)?;
         let owners = RcAllocator::new(alloc);
-        compare_place(&owners, words, statement, trials, &outcome)?;
+        compare_place(&owners, line, statement, trials, &outcome)?;
     }
     Ok(outcome)
 }
