@@ -7,32 +7,32 @@ use prettyless::{Constant, Doc, DocAllocator, DocBuilder, DocPlace, DocPtr};
 use std::process::Abort;
 use std::test::Fail;
 
-// Constants, and a node that is the same as each of them.
-fn leaves<'a, T>() -> [(Constant, Doc<'a, T>); 7] {
-    [
-        (Constant::Nil, Doc::Nil),
-        (Constant::Fail, Doc::Fail),
-        (Constant::Space, Doc::Text(Text::Borrowed(" "))),
-        (Constant::WeakSpace, Doc::WeakSpace),
-        (Constant::HardLine, Doc::HardLine),
-        (Constant::WeakLine, Doc::WeakLine),
-        (Constant::ExpandParent, Doc::ExpandParent),
-    ]
-}
-
 // Whether a place has one node for the constant.
 fn has<'a, D: DocPlace<'a>>(place: &'a D, which: Constant) -> bool {
     place.constant(which).is_some()
 }
 
-// The place has each constant, and places nothing for a node that is the same.
-fn place_leaves<'a, D: CountedPlace<'a>>(rt: &impl Abort, place: &'a D) -> Result<(), Fail> {
-    for (which, leaf) in leaves() {
-        check(rt, has(place, which), "the place", "a constant");
-        place.alloc(leaf)?;
-        check(rt, place.has_no_node(), "the nodes", "a constant");
-    }
+// The place has the constant, and places nothing for a node that is the same.
+fn place_leaf<'a, D: CountedPlace<'a>>(
+    rt: &impl Abort,
+    place: &'a D,
+    which: Constant,
+    leaf: Doc<'a, D::Doc>,
+) -> Result<(), Fail> {
+    check(rt, has(place, which), "the place", "a constant");
+    place.alloc(leaf)?;
+    check(rt, place.has_no_node(), "the nodes", "a constant");
     Ok(())
+}
+
+fn place_leaves<'a, D: CountedPlace<'a>>(rt: &impl Abort, place: &'a D) -> Result<(), Fail> {
+    place_leaf(rt, place, Constant::Nil, Doc::Nil)?;
+    place_leaf(rt, place, Constant::Fail, Doc::Fail)?;
+    place_leaf(rt, place, Constant::Space, Doc::Text(Text::Borrowed(" ")))?;
+    place_leaf(rt, place, Constant::WeakSpace, Doc::WeakSpace)?;
+    place_leaf(rt, place, Constant::HardLine, Doc::HardLine)?;
+    place_leaf(rt, place, Constant::WeakLine, Doc::WeakLine)?;
+    place_leaf(rt, place, Constant::ExpandParent, Doc::ExpandParent)
 }
 
 fn place_built<'a, D: DocPlace<'a>>(
