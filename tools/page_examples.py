@@ -6,7 +6,7 @@ A block is one of these:
 - items, such as functions, that all examples of the page may name. They may also stand before the statements of one, with an
   empty line between;
 - a listing: each part of it between empty lines stands in a file of crates/, apart from spaces and line ends;
-- a table alone, whose layouts a test of crates/ states, each as `(22, "..")`, where 22 is the width;
+- a table alone, whose layouts a test in crates/test_* states, each as `(22, "..")`, where 22 is the width;
 - a line of crates.txt.
 
 A table has a head, such as `80 columns | 2 columns`, and below it the layouts, without empty lines at their ends. In place of
@@ -23,6 +23,7 @@ import unicodedata
 HEAD = re.compile(r"(?:\d+ columns?|[a-z]+)(?: +\| (?:\d+ columns?|[a-z]+))+")
 ITEM = re.compile(r"(?:const|enum|fn|impl|struct)\b| ")
 OUTCOME = re.compile(r"(?:^|[;})] )// ")
+FENCE = re.compile(r" *(?:```|~~~)")
 LINE_OF_CRATES = re.compile(r"\w+:(?: \w+)*")
 MARKS = str.maketrans("·␍", " \r")
 
@@ -45,15 +46,14 @@ class Items(Example):
 
 
 class Texts:
-    """The files of crates/, for what a page says of them."""
+    """The files of crates/, for what a page has of them."""
 
     def __init__(self):
-        self.texts = []
-        for kind in ("rt", "antt"):
-            for path in sorted(glob.glob(f"crates/*/[!o]*/**/*.{kind}", recursive=True)):
-                with open(path, encoding="utf-8") as file:
-                    self.texts.append(file.read())
-        self.squeezed = [squeezed(it) for it in self.texts]
+        forms = ("src/**/*.rt", "specs/**/*.antt", "proofs/**/*.antt")
+        paths = [path for form in forms for path in glob.glob(f"crates/*/{form}", recursive=True)]
+        texts = {path: read(path) for path in paths}
+        self.squeezed = [squeezed(it) for it in texts.values()]
+        self.tests = [text for path, text in texts.items() if path.startswith("crates/test_")]
 
     def have(self, part):
         """Whether the lines stand in a file, apart from spaces and line ends."""
@@ -61,9 +61,14 @@ class Texts:
         return any(listed in it for it in self.squeezed)
 
     def state(self, column):
-        """Whether a test states the layout at this width. It may also have a line end after it."""
-        row = f"({column.head.split()[0]}, {literal(column.layout)[:-1]}"
-        return any(row in it for it in self.texts)
+        """Whether a test states the layout at this width, alone or with a line end after it."""
+        rows = [f"({column.head.split()[0]}, {literal(column.layout + end)})" for end in ("", "\n")]
+        return any(row in it for it in self.tests for row in rows)
+
+
+def read(path):
+    with open(path, encoding="utf-8") as file:
+        return file.read()
 
 
 def squeezed(text):
@@ -75,8 +80,8 @@ def literal(text):
     return json.dumps(text, ensure_ascii=False)
 
 
-def blocks_of(path):
-    """The indented blocks of a page, each as the list of its parts."""
+def blocks_of(path, faults):
+    """The blocks of a page, each as the list of its parts."""
     block, part = [], []
     with open(path, encoding="utf-8") as lines:
         for number, line in enumerate([*lines, "end"], 1):
@@ -86,9 +91,12 @@ def blocks_of(path):
                 part.append(line[4:].rstrip("\n"))
             elif not line.strip():
                 part = []
-            elif block:
-                yield block
+            else:
+                if block:
+                    yield block
                 block, part = [], []
+                if FENCE.match(line):
+                    faults.append(f"{path}:{number}: blocks of this page are indented, and have no fence")
 
 
 def cells_of(line, bars):
@@ -128,20 +136,21 @@ def is_no_example(block, columns, texts):
     """Whether it is a listing, a table of layouts that tests state, or a line of crates.txt."""
     if columns and len(block) == 1:
         return all(texts.state(it) for it in columns)
-    return all(texts.have(it) for it in block) or LINE_OF_CRATES.fullmatch("\n".join(block[0].lines))
+    return all(texts.have(it) for it in block) or LINE_OF_CRATES.fullmatch("\n".join(lines_of(block)))
 
 
 def examples_of(path, faults):
     """The items and the examples of a page, in order."""
     texts = Texts()
-    for block in blocks_of(path):
+    for block in blocks_of(path, faults):
         items, statements, tables = parted(block)
         columns = [column for it in tables for column in columns_of(path, it, faults)]
-        if (tables and not columns) or is_no_example(block, columns, texts):
+        is_example = statements and (columns or OUTCOME.search(statements[-1].lines[-1]))
+        if (tables and not columns) or (not is_example and is_no_example(block, columns, texts)):
             continue
         if items:
             yield Items(path, items[0].line, lines_of(items))
-        if statements and (columns or OUTCOME.search(statements[-1].lines[-1])):
+        if is_example:
             yield Example(path, statements[0].line, lines_of(statements), columns)
         elif statements or columns:
             faults.append(f"{path}:{block[0].line}: this looks like an example, and is none")
