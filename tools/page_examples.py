@@ -22,6 +22,7 @@ import unicodedata
 
 HEAD = re.compile(r"(?:\d+ columns?|[a-z]+)(?: +\| (?:\d+ columns?|[a-z]+))+")
 ITEM = re.compile(r"(?:const|enum|fn|impl|struct)\b| ")
+CONTRACT = re.compile(r" +(?:ensures|requires) ")
 OUTCOME = re.compile(r"(?:^|[;})] )// ")
 FENCE = re.compile(r" *(?:```|~~~)")
 LINE_OF_CRATES = re.compile(r"\w+:(?: \w+)*")
@@ -124,11 +125,16 @@ def lines_of(parts):
     return "\n\n".join("\n".join(it.lines) for it in parts).split("\n")
 
 
+def has_items(part):
+    """Whether the lines are of items. A function with a contract is none: it has to be a listing."""
+    return ITEM.match(part.lines[0]) and not any(CONTRACT.match(it) for it in part.lines)
+
+
 def parted(block):
     """The items of a block, its statements, and its table."""
     tables = [it for it in block if HEAD.fullmatch(it.lines[0])]
     code = [it for it in block if it not in tables]
-    count = next((at for at, it in enumerate(code) if not ITEM.match(it.lines[0])), len(code))
+    count = next((at for at, it in enumerate(code) if not has_items(it)), len(code))
     return code[:count], code[count:], tables
 
 
