@@ -8,7 +8,7 @@ use crate::statement::{Statement, VisitCounts};
 use crate::words::Line;
 use bumpalo::Bump;
 use prettyless::{Arena, BoxAllocator, DocPlace, DocPtr, RcAllocator, Visits};
-use std::alloc::Global;
+use std::alloc::{AllocError, Global};
 use std::fmt;
 
 /// What is tried of a case besides its layout.
@@ -36,21 +36,24 @@ pub fn compare(alloc: Global, what: &str, stated: &str, found: &str) -> Result<(
     Err(differs(alloc, what, stated, found))
 }
 
-// The same of visits.
+// Counts of visits in words.
+fn visit_words(alloc: Global, printer: u64, probes: u64) -> Result<String, AllocError> {
+    format!(in alloc; "{printer} {probes}")
+}
+
+// Refuses other visits than those that are stated.
 fn compare_visits(
     alloc: Global,
     what: &str,
     stated: Option<VisitCounts>,
     found: Visits,
 ) -> Result<(), Refusal> {
-    let VisitCounts { printer, probes } = match stated {
-        Some(counts) if counts.printer != found.printer || counts.probes != found.probes => counts,
-        _ => return Ok(()),
+    let Some(VisitCounts { printer, probes }) = stated else {
+        return Ok(());
     };
-    let stated = format!(in alloc; "{printer} {probes}")?;
-    let (printer, probes) = (found.printer, found.probes);
-    let found = format!(in alloc; "{printer} {probes}")?;
-    Err(differs(alloc, what, stated.as_str(), found.as_str()))
+    let stated = visit_words(alloc, printer, probes)?;
+    let found = visit_words(alloc, found.printer, found.probes)?;
+    compare(alloc, what, stated.as_str(), found.as_str())
 }
 
 // Refuses more than five visits by probes for each by the printer.
@@ -58,9 +61,8 @@ fn compare_few(alloc: Global, found: Visits) -> Result<(), Refusal> {
     if found.probes / 5 < found.printer {
         return Ok(());
     }
-    let (printer, probes) = (found.printer, found.probes);
-    let found = format!(in alloc; "visits {printer} {probes}")?;
-    Err(differs(alloc, "", "few", found.as_str()))
+    let found = visit_words(alloc, found.printer, found.probes)?;
+    Err(differs(alloc, "visits: ", "few", found.as_str()))
 }
 
 // Compares the layout over a table with the one over the nodes, and its visits with what the line states of them.
@@ -99,21 +101,24 @@ fn compare_stated<'a, T: DocPtr<'a> + fmt::Debug>(
     Ok(())
 }
 
-// A case with its nodes in some place, and what comes of it.
-#[derive(Drop)]
-struct Laid<T> {
-    case: ReadCase<T>,
-    outcome: Outcome,
-    visits: Visits,
+// What is longer takes too long with each of its calls in turn, and with a piece of memory for each of its nodes.
+const MOST_BYTES: usize = 256;
+
+const MOST_VISITS: u64 = 10_000;
+
+fn is_short(outcome: &Outcome, visits: Visits) -> bool {
+    outcome.bytes.len() <= MOST_BYTES
+        && visits.printer <= MOST_VISITS
+        && visits.probes <= MOST_VISITS
 }
 
-// What comes of a case with its nodes in this place, where that is what the line states.
+// What comes of a case with its nodes in this place, where that is what the line states, and whether it is short.
 fn compared_in<'a, D: DocPlace<'a>>(
     place: &'a D,
     line: &'a [u8],
     statement: Option<&Statement>,
     trials: Trials,
-) -> Result<Laid<D::Doc>, Refusal>
+) -> Result<(Outcome, bool), Refusal>
 where
     D::Doc: fmt::Debug,
 {
@@ -130,44 +135,26 @@ where
     if trials.over_table || counts.is_some() {
         compare_over_table(alloc, &case, found.as_str(), counts)?;
     }
-    Ok(Laid {
-        case,
-        outcome,
-        visits,
-    })
+    let is_short = is_short(&outcome, visits);
+    if trials.hostile && is_short {
+        compare_hostile(alloc, &case, &outcome)?;
+    }
+    Ok((outcome, is_short))
 }
 
-// Compares what comes of a case with its nodes in this place with what came of it in another.
-fn compare_place<'a, D: DocPlace<'a>>(
-    place: &'a D,
-    line: &'a [u8],
-    statement: Option<&Statement>,
-    trials: Trials,
+// Refuses a case that comes out otherwise with its nodes in another place.
+fn compare_place(
+    alloc: Global,
     expected: &Outcome,
-) -> Result<(), Refusal>
-where
-    D::Doc: fmt::Debug,
-{
-    let alloc = place.memory();
-    let found = compared_in(place, line, statement, trials)?;
-    let (expected, found) = (expected.words(alloc)?, found.outcome.words(alloc)?);
+    found: Result<(Outcome, bool), Refusal>,
+) -> Result<(), Refusal> {
+    let (expected, found) = (expected.words(alloc)?, found?.0.words(alloc)?);
     compare(
         alloc,
         "in another place: ",
         expected.as_str(),
         found.as_str(),
     )
-}
-
-// What is longer takes too long with each of its calls in turn, and with a piece of memory for each of its nodes.
-const MOST_BYTES: usize = 256;
-
-const MOST_VISITS: u64 = 10_000;
-
-fn is_short(outcome: &Outcome, visits: Visits) -> bool {
-    outcome.bytes.len() <= MOST_BYTES
-        && visits.printer <= MOST_VISITS
-        && visits.probes <= MOST_VISITS
 }
 
 /// What comes of the case of this line, where all that is stated and tried of it holds. Its nodes are in an arena. In
@@ -180,17 +167,24 @@ pub fn compared(
 ) -> Result<Outcome, Refusal> {
     let bump = Bump::new(alloc);
     let arena = Arena::new(alloc, &bump);
-    let Laid {
-        case,
-        outcome,
-        visits,
-    } = compared_in(&arena, line, statement, trials)?;
-    if trials.hostile && is_short(&outcome, visits) {
-        compare_hostile(alloc, &case, &outcome)?;
+    let (outcome, is_short) = compared_in(&arena, line, statement, trials)?;
+    if trials.hostile && is_short {
+        let trials = Trials {
+            hostile: false,
+            ..trials
+        };
         let boxes = BoxAllocator::new(alloc);
-        compare_place(&boxes, line, statement, trials, &outcome)?;
+        compare_place(
+            alloc,
+            &outcome,
+            compared_in(&boxes, line, statement, trials),
+        )?;
         let owners = RcAllocator::new(alloc);
-        compare_place(&owners, line, statement, trials, &outcome)?;
+        compare_place(
+            alloc,
+            &outcome,
+            compared_in(&owners, line, statement, trials),
+        )?;
     }
     Ok(outcome)
 }

@@ -1,19 +1,18 @@
-//! Layouts by every call, into sinks and writers of which one call goes wrong, each call in turn.
+//! Layouts by every call, into writers of which one call goes wrong, each call in turn.
 //!
 //! Where none goes wrong, the layout comes out, or the bytes before the node that fails. Where one does, the render ends with its
 //! error, what was written is a beginning of that, and nothing is written after it.
-mod byte_writers;
-mod ending;
-mod prints;
-mod sinks;
-mod text_writers;
+mod call;
+mod trial;
+mod writer;
 
 use crate::case::ReadCase;
 use crate::outcome::Outcome;
 use crate::refusal::Refusal;
-use ending::Laying;
+use call::Laying;
 use prettyless::{DocPtr, IndentationPolicy, LineEnding, RenderOptions};
 use std::alloc::Global;
+use trial::trials;
 
 // Whether the calls that take a width alone lay out with these options.
 fn has_width_alone(options: RenderOptions) -> bool {
@@ -30,11 +29,9 @@ pub fn compare_hostile<'a, T: DocPtr<'a>>(
         alloc,
         document: case.document.doc(),
         options: case.options,
-        has_width_alone: has_width_alone(case.options),
-        outcome,
     };
-    sinks::compare(&laying)?;
-    byte_writers::compare(&laying)?;
-    text_writers::compare(&laying)?;
-    prints::compare(&laying)
+    for &trial in trials(alloc, has_width_alone(case.options))?.iter() {
+        laying.compare(outcome, trial)?;
+    }
+    Ok(())
 }
