@@ -144,12 +144,15 @@ fn print_copies<R: AllocGlobal + Print>(rt: &R) -> Option<()> {
     Some(())
 }
 
-// Likewise with counted owners. To copy such a document takes no memory, so none is copied once more.
+// Prints the layouts of copies with counted owners, which outlive what they are copies of. To copy such a document takes no memory,
+// so none is copied once more.
 fn print_counted_copies<R: AllocGlobal + Print>(rt: &R) -> Option<()> {
     let nodes = RcAllocator::new(rt.alloc());
     for kind in COPIED {
         let document = build(&nodes, *kind)?;
-        print(rt, "counted copy", *kind, &document.clone().ok()?)?;
+        let copy = document.clone().ok()?;
+        drop(document);
+        print(rt, "counted copy", *kind, &copy)?;
     }
     Some(())
 }
