@@ -1,5 +1,4 @@
 //! Cases that dice make.
-ghost use Rattle.std.specs.Prelude.{◌<◌, length};
 
 use crate::case::ReadCase;
 use crate::dice::Dice;
@@ -97,13 +96,6 @@ const JOINS: [Join; 16] = [
 
 const OFFSETS: [isize; 8] = [2, 2, 4, 1, 3, -1, -2, -40];
 
-// One of them.
-fn pick<A: Copy>(dice: &mut Dice, from: &[A]) -> A
-    requires { 0 < length from.now }
-{
-    from[dice.roll(from.len())]
-}
-
 // Puts a node in its place.
 fn put<'a>(place: &'a Arena<'a>, doc: Doc<'a, RefDoc<'a>>) -> Result<RefDoc<'a>, Refusal> {
     Ok(place.alloc(doc)?)
@@ -111,7 +103,7 @@ fn put<'a>(place: &'a Arena<'a>, doc: Doc<'a, RefDoc<'a>>) -> Result<RefDoc<'a>,
 
 // A text from the table.
 fn text(dice: &mut Dice) -> Text<'static> {
-    Text::Borrowed(pick(dice, &TEXTS))
+    Text::Borrowed(TEXTS[dice.roll(TEXTS.len())])
 }
 
 // Takes the document that was made last, or shares one that was made before, or makes a text where there is none.
@@ -155,24 +147,24 @@ fn node<'a>(
     made: &mut Vec<RefDoc<'a>>,
 ) -> Result<RefDoc<'a>, Refusal> {
     match dice.roll(40) {
-        0..=5 => put(place, pick(dice, &LEAVES).doc()),
+        0..=5 => put(place, LEAVES[dice.roll(LEAVES.len())].doc()),
         6..=13 => put(place, Doc::Text(text(dice))),
         14 => {
             let columns = dice.roll(9);
             put(place, Doc::TextWithLen(columns, text(dice)))
         }
         15 => {
-            let text = CowStr::Borrowed(pick(dice, &PAYLOADS));
+            let text = CowStr::Borrowed(PAYLOADS[dice.roll(PAYLOADS.len())]);
             put(place, Doc::multiline_text(place.memory(), text)?)
         }
         16..=17 => soft_line(place, dice),
         18..=24 => {
             let inner = operand(place, dice, made)?;
-            put(place, pick(dice, &WRAPPERS).doc(inner))
+            put(place, WRAPPERS[dice.roll(WRAPPERS.len())].doc(inner))
         }
         25..=26 => {
             let inner = operand(place, dice, made)?;
-            put(place, Doc::Nest(pick(dice, &OFFSETS), inner))
+            put(place, Doc::Nest(OFFSETS[dice.roll(OFFSETS.len())], inner))
         }
         27..=28 => {
             let first = operand(place, dice, made)?;
@@ -194,9 +186,9 @@ fn joined<'a>(
     first: RefDoc<'a>,
     second: RefDoc<'a>,
 ) -> Result<RefDoc<'a>, Refusal> {
-    let both = put(place, pick(dice, &JOINS).doc(first, second))?;
+    let both = put(place, JOINS[dice.roll(JOINS.len())].doc(first, second))?;
     match dice.roll(3) {
-        0 => put(place, pick(dice, &WRAPPERS).doc(both)),
+        0 => put(place, WRAPPERS[dice.roll(WRAPPERS.len())].doc(both)),
         _ => Ok(both),
     }
 }
@@ -219,11 +211,8 @@ fn options(dice: &mut Dice) -> RenderOptions {
     let most = dice.roll(41);
     RenderOptions {
         width: dice.roll(most + 1),
-        line_ending: pick(dice, &[LineEnding::Lf, LineEnding::Crlf]),
-        indentation_policy: pick(
-            dice,
-            &[IndentationPolicy::Eager, IndentationPolicy::Deferred],
-        ),
+        line_ending: [LineEnding::Lf, LineEnding::Crlf][dice.roll(2)],
+        indentation_policy: [IndentationPolicy::Eager, IndentationPolicy::Deferred][dice.roll(2)],
     }
 }
 
