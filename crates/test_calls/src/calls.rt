@@ -2,7 +2,7 @@
 use crate::expected::{built, failing, refuses, rows, shows};
 use prettyless::prelude::*;
 use prettyless::text::{BuildError, CowStr};
-use prettyless::{ColumnTest, DocBuilder, NestingTest};
+use prettyless::{ColumnTest, Doc, DocBuilder, DocPtr, NestingTest};
 use std::process::Abort;
 
 pub(crate) fn leaves<'a, D: DocPlace<'a>>(rt: &impl Abort, place: &'a D) {
@@ -35,7 +35,40 @@ pub(crate) fn texts<'a, D: DocPlace<'a>>(rt: &impl Abort, place: &'a D) {
         place.as_string(16) => "\"16\"";
         place.multiline_text(CowStr::Borrowed("a\nb")) => "MultilineText(\"a\\nb\")";
         place.reflow("a  b") => "[\"a\", SoftLineOrSpace, SoftLineOrSpace, \"b\"]";
+        place.reflow(" a") => "[SoftLineOrSpace, \"a\"]";
+        place.reflow("") => "Nil";
     }
+    refuses(rt, place.as_string(failing()));
+}
+
+// How many bytes a text has.
+fn bytes_of<'a, T: DocPtr<'a>>(node: &Doc<'a, T>) -> usize {
+    match node {
+        Doc::Text(text) => text.as_str().len(),
+        _ => 0,
+    }
+}
+
+// How many bytes three texts have, of which the first two are appended first.
+fn bytes_of_three<'a, T: DocPtr<'a>>(node: &Doc<'a, T>) -> Option<(usize, usize, usize)> {
+    let Doc::Append(front, third) = node else {
+        return None;
+    };
+    let Doc::Append(first, second) = front.doc() else {
+        return None;
+    };
+    let last = bytes_of(third.doc());
+    Some((bytes_of(first.doc()), bytes_of(second.doc()), last))
+}
+
+// A text has at most 100 spaces.
+pub(crate) fn many_spaces<'a, D: DocPlace<'a>>(rt: &impl Abort, place: &'a D) {
+    let none = built(rt, place.spaces(0));
+    assert!(rt; none.doc().is_nil());
+    let one = built(rt, place.spaces(100));
+    assert!(rt; bytes_of(one.doc()) == 100);
+    let three = built(rt, place.spaces(205));
+    assert!(rt; bytes_of_three(three.doc()) == Some((100, 100, 5)));
 }
 
 fn text<'a, D: DocPlace<'a>>(rt: &impl Abort, place: &'a D, text: &'a str) -> DocBuilder<'a, D> {

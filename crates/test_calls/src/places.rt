@@ -20,6 +20,7 @@ where
 {
     calls::leaves(rt, place);
     calls::texts(rt, place);
+    calls::many_spaces(rt, place);
     calls::operands(rt, place, both, one, two);
     builders::wrappers(rt, place);
     builders::joins(rt, place);

@@ -1,8 +1,8 @@
 //! Texts, payloads, what values print, and the sentences of errors.
 use crate::expected::{Pieces, compare, failing, refuses, rows};
 use arrayvec::ArrayString;
-use prettyless::RenderError;
 use prettyless::text::{BuildError, CowStr, MultilineTextData, SmallText, Text};
+use prettyless::{BoxDoc, Doc, RenderError};
 use prettyless_text::measure::measure;
 use std::alloc::{AllocError, Global};
 use std::fmt;
@@ -47,6 +47,14 @@ fn values_print_texts(rt: HostRuntime) {
     refuses(&rt, Text::from_display(rt.alloc(), failing()));
     let late = printing(&[MORE], true);
     refuses(&rt, Text::from_display(rt.alloc(), late));
+}
+
+// Eleven columns, in as many bytes as a node has room for.
+#[test]
+fn a_value_takes_its_columns(rt: HostRuntime) {
+    let printed = Doc::<BoxDoc>::as_string(rt.alloc(), printing(&["ééééééééééé"], false));
+    let node = printed.expect(&rt, "a text was not made");
+    assert!(rt; matches!(&node, Doc::TextWithLen(11, Text::Small(_))));
 }
 
 fn owned(rt: &impl Abort, memory: Global, text: &str) -> CowStr<'static> {

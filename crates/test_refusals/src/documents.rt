@@ -1,7 +1,9 @@
-//! The documents, by the calls that ask for memory more than once, or that make one document of many.
+//! The documents, by the calls that ask for memory more than once, or that make one document of many. And those of two branches.
+use crate::alternatives::{both_kept, ending_line, rejected_after, remarks, too_wide};
+use crate::parts::{joined, put_off, text};
 use prettyless::prelude::*;
-use prettyless::text::BuildError;
-use prettyless::{DocBuilder, docs};
+use prettyless::text::{BuildError, Text};
+use prettyless::{Doc, DocBuilder, docs};
 use std::{fmt, iter};
 
 /// A text that has no room in a node.
@@ -29,6 +31,11 @@ pub enum Kind {
     Owned,
     Printed,
     Suffixes,
+    TooWide,
+    Remarks,
+    EndingLine,
+    RejectedAfter,
+    BothKept,
 }
 
 /// The documents that are built in each place.
@@ -39,6 +46,11 @@ pub const ALL: &[Kind] = &[
     Kind::OfMacro,
     Kind::Owned,
     Kind::Printed,
+    Kind::TooWide,
+    Kind::Remarks,
+    Kind::EndingLine,
+    Kind::RejectedAfter,
+    Kind::BothKept,
 ];
 
 /// The documents that are copied.
@@ -46,19 +58,6 @@ pub const COPIED: &[Kind] = &[Kind::Interspersed, Kind::Owned];
 
 /// The document that stays while others are built.
 pub const KEPT: Kind = Kind::Suffixes;
-
-// A text. It has a function of its own, since the proof of each function that makes one of a `&str` takes longer.
-fn text<'a, D: DocPlace<'a>>(place: &'a D, text: &'a str) -> Result<DocBuilder<'a, D>, BuildError> {
-    place.pretty(text)
-}
-
-// One after the other.
-fn joined<'a, D: DocPlace<'a>>(
-    front: Result<DocBuilder<'a, D>, BuildError>,
-    back: Result<DocBuilder<'a, D>, BuildError>,
-) -> Result<DocBuilder<'a, D>, BuildError> {
-    front?.join(back?)
-}
 
 fn repeated<'a, D: DocPlace<'a>>(place: &'a D) -> Result<D::Doc, BuildError> {
     place.pretty(("a", hard_line()))?.repeat(5)?.into_doc()
@@ -81,8 +80,9 @@ fn of_macro<'a, D: DocPlace<'a>>(place: &'a D) -> Result<D::Doc, BuildError> {
 }
 
 fn owned<'a, D: DocPlace<'a>>(place: &'a D) -> Result<D::Doc, BuildError> {
+    let long = Doc::Text(Text::from_display(place.memory(), LONG)?);
     let indented = joined(place.hard_line(), text(place, "b"))?.nest(2);
-    joined(place.as_string(LONG), indented)?.into_doc()
+    joined(Ok(DocBuilder::new(place, long)), indented)?.into_doc()
 }
 
 fn printed<'a, D: DocPlace<'a>>(place: &'a D) -> Result<D::Doc, BuildError> {
@@ -90,9 +90,8 @@ fn printed<'a, D: DocPlace<'a>>(place: &'a D) -> Result<D::Doc, BuildError> {
 }
 
 fn suffixes<'a, D: DocPlace<'a>>(place: &'a D) -> Result<D::Doc, BuildError> {
-    let put_off = text(place, "y")?.as_line_suffix();
-    let put_off = joined(text(place, "x"), put_off)?.as_line_suffix();
-    let front = joined(text(place, "a"), put_off);
+    let suffix = joined(text(place, "x"), put_off(place, "y"))?.as_line_suffix();
+    let front = joined(text(place, "a"), suffix);
     joined(joined(front, place.hard_line()), text(place, "b"))?.into_doc()
 }
 
@@ -106,14 +105,21 @@ impl Kind {
             Kind::Owned => "an owned text",
             Kind::Printed => "what a value prints",
             Kind::Suffixes => "a suffix in a suffix",
+            Kind::TooWide => "a branch that is too wide",
+            Kind::Remarks => "branches with suffixes",
+            Kind::EndingLine => "a branch that ends its line",
+            Kind::RejectedAfter => "a branch in one that is too wide",
+            Kind::BothKept => "a branch in one that fits",
         }
     }
 
     /// The width that it is laid out at.
     pub fn width(self) -> usize {
         match self {
-            Kind::Interspersed => 5,
+            Kind::EndingLine => 1,
             Kind::Reflowed => 2,
+            Kind::Interspersed | Kind::Remarks => 5,
+            Kind::TooWide | Kind::RejectedAfter => 10,
             _ => 80,
         }
     }
@@ -128,6 +134,11 @@ impl Kind {
             Kind::Owned => owned(place),
             Kind::Printed => printed(place),
             Kind::Suffixes => suffixes(place),
+            Kind::TooWide => too_wide(place),
+            Kind::Remarks => remarks(place),
+            Kind::EndingLine => ending_line(place),
+            Kind::RejectedAfter => rejected_after(place),
+            Kind::BothKept => both_kept(place),
         }
     }
 }

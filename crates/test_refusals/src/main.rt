@@ -1,18 +1,23 @@
-//! Builds documents in each place, copies them and lays them out, all over fixed arrays. Where memory is refused it does the same
-//! once more, which has to succeed. So it prints the same whichever one request for memory is refused, and
-//! `tools/refuse_memory` refuses each in turn. It fails where it cannot go on.
+//! Builds documents in each place, copies them and lays them out, and formats an S-expression, all over fixed arrays. Where memory
+//! is refused it does the same once more, which has to succeed. So it prints the same whichever one request for memory is refused,
+//! and `tools/refuse_memory` refuses each in turn. It fails where it cannot go on.
 //!
 //! `rt try` refuses the request of one number in all runs. So this reads how many requests it makes of its own before the others,
 //! and says whether one of its own was refused.
 #![tactic(auto)]
 
+mod alternatives;
 mod documents;
+mod parts;
 
 use arrayvec::ArrayVec;
 use decimals::number;
 use documents::{ALL, COPIED, KEPT, Kind};
 use prettyless::text::BuildError;
-use prettyless::{Arena, BoxAllocator, BoxDoc, Bump, DocPlace, DocPtr, RcAllocator, RenderError};
+use prettyless::{
+    Arena, BoxAllocator, BoxDoc, Bump, DocPlace, DocPtr, RcAllocator, RenderError, RenderOptions,
+};
+use sexp_formatter::RunError;
 use std::alloc::Global;
 use std::io::Read;
 use std::process::ExitCode;
@@ -20,8 +25,20 @@ use std::process::ExitCode;
 // How many requests of its own come after the others, where some come before: enough to reach the one that is refused.
 const AFTER: usize = 1_000;
 
+// The S-expression, and its columns.
+const EXPRESSION: &[u8] = b"((1) (2 3) (4 5 6))";
+
+const COLUMNS: usize = 10;
+
 /// A writer that takes no memory, and nothing more once it is full.
-type Fixed = ArrayVec<u8, 128>;
+type Fixed = ArrayVec<u8, 64>;
+
+/// What a writer was given: all of a layout, or a beginning where memory was refused.
+#[derive(Drop)]
+enum Written {
+    Whole(Fixed),
+    Beginning(Fixed),
+}
 
 // Builds a document, once more where memory is refused.
 fn build<'a, D: DocPlace<'a>>(place: &'a D, kind: Kind) -> Option<D::Doc> {
@@ -39,27 +56,49 @@ fn copy<'a>(memory: Global, document: &BoxDoc<'a>) -> Option<BoxDoc<'a>> {
     }
 }
 
-// Lays a document out whose layout has this beginning.
-fn lay_out_again<'a, T: DocPtr<'a>>(
-    memory: Global,
-    document: &T,
-    width: usize,
-    beginning: &[u8],
-) -> Option<Fixed> {
+// Lays a document out once.
+fn laid_out<'a, T: DocPtr<'a>>(memory: Global, document: &T, width: usize) -> Option<Written> {
     let mut out = Fixed::new();
     match document.doc().render(memory, width, &mut out) {
-        Ok(()) if out.as_slice().starts_with(beginning) => Some(out),
+        Ok(()) => Some(Written::Whole(out)),
+        Err(RenderError::Memory(_)) => Some(Written::Beginning(out)),
+        Err(_) => None,
+    }
+}
+
+// Formats the S-expression once.
+fn formatted(memory: Global) -> Option<Written> {
+    let mut input = EXPRESSION;
+    let mut out = Fixed::new();
+    let options = RenderOptions::new(COLUMNS);
+    match sexp_formatter::run::run(memory, options, &mut input, &mut out) {
+        Ok(()) => Some(Written::Whole(out)),
+        Err(RunError::Memory(_)) => Some(Written::Beginning(out)),
+        Err(_) => None,
+    }
+}
+
+// A whole layout, which has this beginning.
+fn whole_after(beginning: &[u8], written: Written) -> Option<Fixed> {
+    match written {
+        Written::Whole(out) if out.as_slice().starts_with(beginning) => Some(out),
         _ => None,
     }
 }
 
 // Lays a document out, once more where memory is refused.
 fn lay_out<'a, T: DocPtr<'a>>(memory: Global, document: &T, width: usize) -> Option<Fixed> {
-    let mut out = Fixed::new();
-    match document.doc().render(memory, width, &mut out) {
-        Ok(()) => Some(out),
-        Err(RenderError::Memory(_)) => lay_out_again(memory, document, width, out.as_slice()),
-        Err(_) => None,
+    match laid_out(memory, document, width)? {
+        Written::Whole(out) => Some(out),
+        Written::Beginning(out) => whole_after(out.as_slice(), laid_out(memory, document, width)?),
+    }
+}
+
+// Likewise of the S-expression.
+fn format(memory: Global) -> Option<Fixed> {
+    match formatted(memory)? {
+        Written::Whole(out) => Some(out),
+        Written::Beginning(out) => whole_after(out.as_slice(), formatted(memory)?),
     }
 }
 
@@ -105,13 +144,34 @@ fn print_copies<R: AllocGlobal + Print>(rt: &R) -> Option<()> {
     Some(())
 }
 
+// Prints the layouts of copies with counted owners, which outlive what they are copies of. To copy such a document takes no memory,
+// so none is copied once more.
+fn print_counted_copies<R: AllocGlobal + Print>(rt: &R) -> Option<()> {
+    let nodes = RcAllocator::new(rt.alloc());
+    for kind in COPIED {
+        let document = build(&nodes, *kind)?;
+        let copy = document.clone().ok()?;
+        drop(document);
+        print(rt, "counted copy", *kind, &copy)?;
+    }
+    Some(())
+}
+
+fn print_formatted<R: AllocGlobal + Print>(rt: &R) -> Option<()> {
+    let layout = format(rt.alloc())?;
+    println!(rt; "-- an S-expression").ok()?;
+    Print::write_all(rt, layout.as_slice()).ok()
+}
+
 fn print_all<R: AllocGlobal + Print>(rt: &R) -> Option<()> {
     print_each(rt, "boxes", &BoxAllocator::new(rt.alloc()))?;
     print_each(rt, "counted owners", &RcAllocator::new(rt.alloc()))?;
     let bump = Bump::new(rt.alloc());
     let arena = Arena::new(rt.alloc(), &bump);
     print_in_arena(rt, &arena)?;
-    print_copies(rt)
+    print_copies(rt)?;
+    print_counted_copies(rt)?;
+    print_formatted(rt)
 }
 
 // Makes a request, and answers whether it is granted.
