@@ -1,3 +1,4 @@
 mod Accounts
 pub mod Areas
+pub mod Limits
 mod Overlaid

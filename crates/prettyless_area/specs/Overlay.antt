@@ -28,3 +28,8 @@ pub record PutsAll (limit : ℕ) (bytes old new : List ℕ) (count : ℕ) : Type
 pub record PutsToLimit (limit : ℕ) (bytes old new : List ℕ) (count : ℕ) : Type 0 where
   pub puts : Puts (take limit bytes) old new count
   pub past : limit < length bytes
+
+-- No byte past the limit was put, and none there is counted: from there on the area holds what it held.
+pub record KeepsLimit (limit : ℕ) (old new : List ℕ) (count : ℕ) : Type 0 where
+  pub past : drop limit new ≡ drop limit old
+  pub counted : count ≤ limit

@@ -1,12 +1,15 @@
 -- What the number of a status says.
+use Rattle.std.proofs.lemmas.List.{length-take}
 use Rattle.std.proofs.Common.{◌≡◌, refl, ◌≤◌, ◌<◌, ◌⊎◌, inl, inr, ℕ, List, [], ◌∷◌, ◌++◌, length, take, ◌∙◌, subst, arith}
-use Rattle.prettyless_area.specs.Overlay.{overlay}
+use Rattle.prettyless_area.specs.Overlay.{overlay, KeepsLimit}
+use Rattle.prettyless_area.proofs.Limits.{keeps_limit}
 use Rattle.prettyless_model.specs.Layout.{bytes_in, layout}
 use Rattle.prettyless_model.specs.Tree.{Tree}
 use Rattle.prettyless_model.specs.declared.options.RenderOptions.{RenderOptions}
 use Rattle.prettyless_program.specs.declared.fault.Fault.{Fault}
 use Rattle.prettyless_program.specs.declared.fault.Fault.TheVariants as fault
 use Rattle.prettyless_program.proofs.OneDocument.{at_most_one}
+use Rattle.prettyless_program.specs.Faults.{WritesNone}
 use Rattle.prettyless_exports.specs.Answers.{Answers, BeginsLayout, Holds, IsCutShort, IsLaidOut, IsPast, IsProgramRefused, IsUntouched}
 use Rattle.prettyless_exports.specs.Numbers.{number_of}
 use Rattle.prettyless_exports.specs.Statuses.{StatusHolds}
@@ -40,7 +43,7 @@ module _ (o : RenderOptions) (limit : ℕ) (program old new : List ℕ) (written
 
   memory : (s : Status) → StatusHolds o limit program old new written s → number_of s ≡ 2 → (front : List ℕ) × BeginsLayout o program front
       × Holds front old new written
-  memory status.Memory (d, w, (front, (back, whole), held)) e =
+  memory status.Memory (d, w, (front, (back, whole), within, held)) e =
       (front, (λ d' w'. (back, subst (λ (x : Tree). bytes_in (layout o x) ≡ front ++ back) (at_most_one program d d' w w') whole)), held)
   memory (status.Refused fault.Memory) h e = ([], (λ d w. (bytes_in (layout o d), refl)), nothing_held h.1)
   memory s h e = absurd (omega arith)
@@ -93,6 +96,28 @@ module _ (o : RenderOptions) (limit : ℕ) (program old new : List ℕ) (written
   unclosed (status.Refused fault.Unclosed) h e = refused fault.Unclosed (λ x. absurd cc) h
   unclosed s h e = absurd (omega arith)
 
+  -- these bytes are in the area, and within the limit
+  held_within : (bytes : List ℕ) → length bytes ≤ limit → Holds bytes old new written → KeepsLimit limit old new written
+  held_within bytes within held = keeps_limit limit bytes old new written held.in_place within (omega (arith, held.count))
+
+  limited : (s : Status) → StatusHolds o limit program old new written s → KeepsLimit limit old new written
+  limited status.LaidOut (d, w, (bytes, whole, content, within, fits, held)) = held_within bytes within held
+  limited status.TooSmall (d, w, (bytes, whole, content, within, short, held, count)) =
+      keeps_limit limit bytes old new written held within (omega arith)
+  limited status.Memory (d, w, (front, back, within, held)) = held_within front within held
+  limited status.Fails (d, w, (bytes, cut, within, held)) = held_within bytes within held
+  limited status.PastLimit (d, w, (past, held)) =
+      held_within (take limit (bytes_in (layout o d))) (omega (arith, length-take limit (bytes_in (layout o d)))) held
+  limited (status.Refused f) h = held_within [] (omega arith) (nothing_held h.1)
+
+  no_document : (s : Status) → StatusHolds o limit program old new written s → WritesNone program → IsUntouched old new written
+  no_document status.LaidOut h none = absurd (none h.0 h.1)
+  no_document status.TooSmall h none = absurd (none h.0 h.1)
+  no_document status.Memory h none = absurd (none h.0 h.1)
+  no_document status.Fails h none = absurd (none h.0 h.1)
+  no_document status.PastLimit h none = absurd (none h.0 h.1)
+  no_document (status.Refused f) h none = h.1
+
   known : (s : Status) → (number_of s ≤ 4) ⊎ ((16 ≤ number_of s) × (number_of s ≤ 21))
   known status.LaidOut = inl (omega arith)
   known status.TooSmall = inl (omega arith)
@@ -115,5 +140,7 @@ module _ (o : RenderOptions) (limit : ℕ) (program old new : List ℕ) (written
     document = document s h;
     unopened = unopened s h;
     unclosed = unclosed s h;
+    limited = limited s h;
+    no_document = no_document s h;
     known = known s;
   }

@@ -1,6 +1,6 @@
 -- What a call for the layout of a program answers, for each status.
 use Rattle.std.specs.Prelude.{◌≡◌, ◌≤◌, ◌<◌, ◌⊎◌, ◌-◌, ◌^◌, ◌==◌, ℕ, Bool, List, ◌++◌, length, min, take, if◌then◌else◌}
-use Rattle.prettyless_area.specs.Overlay.{overlay}
+use Rattle.prettyless_area.specs.Overlay.{overlay, KeepsLimit}
 use Rattle.prettyless_model.specs.Content.{HasContent}
 use Rattle.prettyless_model.specs.Layout.{Whole, Cut, bytes_in, layout}
 use Rattle.prettyless_model.specs.Tree.{Tree}
@@ -98,5 +98,9 @@ pub record Answers (o : RenderOptions) (limit : ℕ) (program old new : List ℕ
   pub document : status ≡ 19 → IsProgramRefused fault.Document program old new written
   pub unopened : status ≡ 20 → IsProgramRefused fault.Unopened program old new written
   pub unclosed : status ≡ 21 → IsProgramRefused fault.Unclosed program old new written
+  -- whatever the status, no byte past the limit is written
+  pub limited : KeepsLimit limit old new written
+  -- whatever the status, bytes that write no document leave the area as it was
+  pub no_document : WritesNone program → IsUntouched old new written
   -- there is no other status
   pub known : (status ≤ 4) ⊎ ((16 ≤ status) × (status ≤ 21))

@@ -1,6 +1,6 @@
 -- What a layout into an area leaves.
 use Rattle.std.specs.Prelude.{◌≡◌, ℕ, List, ◌++◌, Result, Ok, Err, OnOk}
-use Rattle.prettyless_area.specs.Overlay.{PutsAll, PutsToLimit}
+use Rattle.prettyless_area.specs.Overlay.{PutsAll, PutsToLimit, KeepsLimit}
 use Rattle.prettyless_model.specs.Content.{HasContent}
 use Rattle.prettyless_model.specs.Layout.{Bytes, Whole, Cut, bytes_in, layout}
 use Rattle.prettyless_model.specs.Tree.{Tree}
@@ -24,5 +24,7 @@ pub record LaysInto {A E : Type 0} (o : RenderOptions) (d : Tree) (limit : ℕ) 
     (result : Result A (RenderError E)) : Type 0 where
   -- what was put of the layout's bytes
   pub bytes : Laid (layout o d) limit old new count result
+  -- whatever the answer, no byte past the limit was put
+  pub limited : KeepsLimit limit old new count
   -- `Ok`: the bytes have the document's content
   pub content : OnOk result (HasContent d (bytes_in (layout o d)))

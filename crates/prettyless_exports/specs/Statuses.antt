@@ -18,7 +18,7 @@ StatusHoldsOf o limit d old new written status.LaidOut = (bytes : List ℕ) × (
 StatusHoldsOf o limit d old new written status.TooSmall = (bytes : List ℕ) × (layout o d ≡ Whole bytes) × HasContent d bytes
     × (length bytes ≤ limit) × (length old < length bytes) × (new ≡ overlay bytes old) × (written ≡ length bytes)
 StatusHoldsOf o limit d old new written status.Memory = (front : List ℕ) × ((back : List ℕ) × (bytes_in (layout o d) ≡ front ++ back))
-    × Holds front old new written
+    × (length front ≤ limit) × Holds front old new written
 StatusHoldsOf o limit d old new written status.Fails = (bytes : List ℕ) × (layout o d ≡ Cut bytes) × (length bytes ≤ limit)
     × Holds bytes old new written
 StatusHoldsOf o limit d old new written status.PastLimit = (limit < length (bytes_in (layout o d)))
