@@ -8,6 +8,3 @@ pub mod Lexer
 pub mod Words
 pub mod Expected
 pub mod Next
-pub mod Readings
-pub mod Steps
-pub mod Faults

@@ -1,13 +1,6 @@
 //! What may come next in a JSON text, lexeme by lexeme.
-ghost use Rattle.std.specs.Prelude.{◌≡◌, Some, None, cond, length, IfOk};
-ghost use Rattle.std.specs.List.{prefix_len};
-ghost use Rattle.std.specs.Str.{IsCharBoundary};
-ghost use Rattle.json_lexemes.specs.Faults.{IsExpectedBy, IsExpectedForString, IsInString, begins_value, expected_for_bracket};
-ghost use Rattle.json_lexemes.specs.Faults.{expects_string, is_plain, plain_front};
+ghost use Rattle.std.specs.Prelude.{◌≡◌};
 ghost use Rattle.json_lexemes.specs.Next.{after_colon, after_comma, after_value, closes_array, closes_object, is_key, expects_value};
-ghost use Rattle.json_lexemes.specs.Readings as spec;
-ghost use Rattle.json_lexemes.specs.Steps.{Stepped, brackets_of, reading_of};
-ghost use Rattle.json_lexemes.specs.View.{IsNamed, text_of};
 
 use crate::expected::Expected;
 use crate::lexeme::Lexeme;
@@ -92,52 +85,21 @@ struct Open {
 }
 
 impl Open {
-    fn new(bracket: Bracket, offset: usize) -> Open
-        ensures { result.bracket ≡ bracket }
-    {
+    fn new(bracket: Bracket, offset: usize) -> Open {
         Open { bracket, offset }
     }
 }
 
-/// Whether this is a letter, a digit, or what else numbers have.
-fn is_plain(byte: u8) -> bool
-    ensures { result ≡ is_plain byte }
-{
-    byte.is_ascii_alphanumeric() || matches!(byte, b'+' | b'-' | b'.' | b'_')
-}
-
-/// How many bytes of a word are such, from its beginning on.
-fn plain_len(word: &str) -> usize
-    ensures len { result ≡ prefix_len is_plain word.now }
-    ensures boundary { IsCharBoundary word.now result }
-{
+/// How many bytes of a word are letters, digits and what else numbers have, from its beginning on.
+fn plain_len(word: &str) -> usize {
     let mut len = 0usize;
     for byte in word.as_bytes() {
-        if !is_plain(*byte) {
+        if !byte.is_ascii_alphanumeric() && !matches!(*byte, b'+' | b'-' | b'.' | b'_') {
             break;
         }
         len = len.saturating_add(1);
     }
     len
-}
-
-/// Whether a string or a word is JSON alone.
-///
-/// `AllocError` where memory is refused.
-fn is_leaf(text: &str, scratch: &mut Scratch<Global>) -> Result<bool, AllocError>
-    ensures { IfOk result (λ leaf. leaf ≡ spec.is_leaf text.now) }
-{
-    is_valid(text, scratch)
-}
-
-/// What was expected in a string that JSON does not have.
-fn expected_in(string: &str) -> Expected
-    ensures { IsInString result }
-{
-    match refused_part(string) {
-        Some(part) => part.expected,
-        None => Expected::Quote,
-    }
 }
 
 /// The lexemes that were read so far: the brackets that they left open, and what is to come next.
@@ -150,7 +112,7 @@ pub(crate) struct Reading {
 
 impl Reading {
     pub fn new(alloc: Global) -> Reading
-        ensures { reading_of result ≡ spec.first_reading }
+        ensures { result.next ≡ Expected.Value }
     {
         Reading {
             open: Vec::new(alloc),
@@ -160,9 +122,7 @@ impl Reading {
     }
 
     /// The innermost bracket that is open.
-    pub fn innermost(&self) -> Option<Bracket>
-        ensures { result ≡ spec.innermost (brackets_of self.now.«open».items) }
-    {
+    pub fn innermost(&self) -> Option<Bracket> {
         match self.open.last() {
             Some(open) => Some(open.bracket),
             None => None,
@@ -177,10 +137,7 @@ impl Reading {
         }
     }
 
-    fn open(&mut self, open: Open, next: Expected) -> Result<Option<Expected>, AllocError>
-        ensures { IfOk result (λ stopped. Stepped (reading_of self.old) (spec.opened (reading_of self.old) open.bracket next)
-            (λ e. e ≡ expected_for_bracket (reading_of self.old)) stopped (reading_of self.new)) }
-    {
+    fn open(&mut self, open: Open, next: Expected) -> Result<Option<Expected>, AllocError> {
         if !is_value(self.next) {
             return Ok(Some(self.next));
         }
@@ -192,10 +149,7 @@ impl Reading {
         Ok(None)
     }
 
-    fn close(&mut self, fits: bool) -> Option<Expected>
-        ensures { Stepped (reading_of self.old) (spec.closed (reading_of self.old) fits)
-            (λ e. e ≡ self.old.next) result (reading_of self.new) }
-    {
+    fn close(&mut self, fits: bool) -> Option<Expected> {
         if !fits {
             return Some(self.next);
         }
@@ -205,10 +159,7 @@ impl Reading {
     }
 
     /// Takes a comma or a colon, after which `next` is to come.
-    fn pass(&mut self, next: Option<Expected>) -> Option<Expected>
-        ensures { Stepped (reading_of self.old) (spec.passed (reading_of self.old) next)
-            (λ e. e ≡ self.old.next) result (reading_of self.new) }
-    {
+    fn pass(&mut self, next: Option<Expected>) -> Option<Expected> {
         match next {
             Some(next) => {
                 self.next = next;
@@ -218,73 +169,38 @@ impl Reading {
         }
     }
 
-    /// Takes a string or a word, after which `next` is to come, if JSON has it.
-    fn take(&mut self, text: &str, next: Expected) -> Result<bool, AllocError>
-        ensures taken { IfOk result (λ taken. taken ≡ spec.is_leaf text.now) }
-        ensures reading { IfOk result (λ taken. reading_of self.new
-            ≡ cond taken (spec.before (reading_of self.old).open_brackets next) (reading_of self.old)) }
-    {
-        let is_leaf = is_leaf(text, &mut self.scratch)?;
-        if is_leaf {
-            self.next = next;
-        }
-        Ok(is_leaf)
-    }
-
-    /// Takes a word, as a value.
-    fn word(&mut self, text: &str) -> Result<Option<Expected>, AllocError>
-        ensures { IfOk result (λ stopped. Stepped (reading_of self.old) (spec.valued (reading_of self.old) text.now)
-            (λ e. e ≡ self.old.next) stopped (reading_of self.new)) }
-    {
-        let expected = self.next;
-        if !is_value(expected) {
-            return Ok(Some(expected));
+    fn value(&mut self, text: &str) -> Result<Option<Expected>, AllocError> {
+        if !is_value(self.next) {
+            return Ok(Some(self.next));
         }
         let next = after_value(self.innermost());
-        Ok(if self.take(text, next)? {
-            None
-        } else {
-            Some(expected)
-        })
+        self.leaf(text, next)
     }
 
-    /// Takes a string, as a key or a value.
-    fn string(&mut self, text: &str) -> Result<Option<Expected>, AllocError>
-        ensures { IfOk result (λ stopped. Stepped (reading_of self.old) (spec.keyed (reading_of self.old) text.now)
-            (IsExpectedForString (reading_of self.old)) stopped (reading_of self.new)) }
-    {
-        let next = if is_key(self.next) {
-            Expected::Colon
-        } else if is_value(self.next) {
-            after_value(self.innermost())
+    /// A string or a word, as a value or a key, after which `next` is to come.
+    fn leaf(&mut self, text: &str, next: Expected) -> Result<Option<Expected>, AllocError> {
+        if is_valid(text, &mut self.scratch)? {
+            self.next = next;
+            return Ok(None);
+        }
+        Ok(Some(if !text.starts_with('"') {
+            self.next
         } else {
-            return Ok(Some(self.next));
-        };
-        Ok(if self.take(text, next)? {
-            None
-        } else {
-            Some(expected_in(text))
-        })
-    }
-
-    /// Whether a string may come.
-    pub fn expects_string(&self) -> bool
-        ensures { result ≡ expects_string self.now.next }
-    {
-        is_value(self.next) || is_key(self.next)
+            match refused_part(text) {
+                Some(part) => part.expected,
+                None => Expected::Quote,
+            }
+        }))
     }
 
     /// How long the value is that a longer word begins with, in bytes, and what may follow it. `None` where a word that JSON does
     /// not have begins with none, or where no value may come.
     ///
     /// `AllocError` where memory is refused.
-    pub fn value_in(&mut self, word: &str) -> Result<Option<(usize, Expected)>, AllocError>
-        ensures { IfOk result (λ found. found ≡ cond (begins_value (reading_of self.old) word.now)
-            (Some (length (plain_front word.now), after_value (spec.innermost (reading_of self.old).open_brackets))) None) }
-    {
+    pub fn value_in(&mut self, word: &str) -> Result<Option<(usize, Expected)>, AllocError> {
         let len = plain_len(word);
         let value = word.get(..len).unwrap_or("");
-        if is_value(self.next) && is_leaf(value, &mut self.scratch)? {
+        if is_value(self.next) && is_valid(value, &mut self.scratch)? {
             Ok(Some((len, after_value(self.innermost()))))
         } else {
             Ok(None)
@@ -298,11 +214,7 @@ impl Reading {
         &mut self,
         lexeme: Lexeme<'_>,
         offset: usize,
-    ) -> Result<Option<Expected>, AllocError>
-        ensures { IsNamed lexeme.entry → IfOk result (λ stopped. Stepped (reading_of self.old)
-            (spec.lexeme_step (reading_of self.old) (text_of lexeme.entry))
-            (IsExpectedBy (spec.sort_of (text_of lexeme.entry)) (reading_of self.old)) stopped (reading_of self.new)) }
-    {
+    ) -> Result<Option<Expected>, AllocError> {
         match lexeme {
             Lexeme::OpenArray => self.open(
                 Open::new(Bracket::Array, offset),
@@ -316,8 +228,8 @@ impl Reading {
             Lexeme::CloseObject => Ok(self.close(closes_object(self.next))),
             Lexeme::Comma => Ok(self.pass(after_comma(self.next))),
             Lexeme::Colon => Ok(self.pass(after_colon(self.next))),
-            Lexeme::String(text) => self.string(text),
-            Lexeme::Word(text) => self.word(text),
+            Lexeme::String(text) if is_key(self.next) => self.leaf(text, Expected::Colon),
+            Lexeme::String(text) | Lexeme::Word(text) => self.value(text),
         }
     }
 }

@@ -1,7 +1,4 @@
 //! What JSON does not allow in a string.
-ghost use Rattle.std.specs.Prelude.{◌≡◌, ◌≤◌, Some, None, length, IfSome};
-ghost use Rattle.json_lexemes.specs.Faults.{IsInString};
-
 use crate::expected::Expected;
 
 /// How many hexadecimal digits an escape by number has, of the four that it is to have.
@@ -44,18 +41,14 @@ struct StringPart {
     expected: Option<Expected>,
 }
 
-fn allowed(len: usize) -> StringPart
-    ensures { result.expected ≡ None }
-{
+fn allowed(len: usize) -> StringPart {
     StringPart {
         len,
         expected: None,
     }
 }
 
-fn refused(len: usize, expected: Expected) -> StringPart
-    ensures { result.expected ≡ Some expected }
-{
+fn refused(len: usize, expected: Expected) -> StringPart {
     StringPart {
         len,
         expected: Some(expected),
@@ -63,9 +56,7 @@ fn refused(len: usize, expected: Expected) -> StringPart
 }
 
 /// The escape by number with which these bytes begin, or the surrogate pair.
-fn number(bytes: &[u8]) -> StringPart
-    ensures { IfSome result.expected IsInString }
-{
+fn number(bytes: &[u8]) -> StringPart {
     let digits = digits(bytes);
     if digits < 4 {
         return refused(digits.saturating_add(2), Expected::Escape);
@@ -92,9 +83,7 @@ fn escape_len(bytes: &[u8]) -> usize {
 }
 
 /// The part with which these bytes begin.
-fn first_part(bytes: &[u8]) -> StringPart
-    ensures { IfSome result.expected IsInString }
-{
+fn first_part(bytes: &[u8]) -> StringPart {
     match (bytes.first(), bytes.get(1)) {
         (Some(b'\\'), Some(b'u')) => number(bytes),
         (Some(b'\\'), Some(b'"' | b'\\' | b'/' | b'b' | b'f' | b'n' | b'r' | b't')) => allowed(2),
@@ -118,9 +107,7 @@ pub(crate) struct RefusedPart<'s> {
 
 /// The first part of a string, spelled with its quotes, that JSON does not allow: an escape, half of a surrogate pair, the end of a
 /// line, or another control character.
-pub(crate) fn refused_part(string: &str) -> Option<RefusedPart<'_>>
-    ensures { IfSome result (λ part. (part.offset ≤ length string.now) × IsInString part.expected) }
-{
+pub(crate) fn refused_part(string: &str) -> Option<RefusedPart<'_>> {
     let bytes = string.as_bytes();
     let mut next = 1;
     for offset in 1..bytes.len() {
