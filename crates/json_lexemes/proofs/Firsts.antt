@@ -8,6 +8,7 @@ use Rattle.std.specs.Str.{IsUtf8, IsCharBoundary}
 use Rattle.json.specs.Word.{head, is_operator, is_space}
 use Rattle.json.specs.Lex.{quote, backslash, operator, space, other, class, Mode, between, in_word, in_string}
 use Rattle.json_lexemes.specs.Lexemes.{lengthened, cut, cut_byte}
+use Rattle.json_lexemes.specs.SpacedLexemes.{first_spaces}
 use Rattle.json_lexemes.specs.View.{IsFirst}
 use Rattle.json_lexemes.proofs.Classes.{class-operator, class-space, each_operator, each_space}
 use Rattle.json_lexemes.proofs.Sound.{cut-space}
@@ -116,6 +117,14 @@ pub past_space : (d : List ℕ) (place : ℕ) → place < length d → is_space 
     cut between (drop (place + 1) d) ≡ cut between (drop place d)
 past_space d place lt e =
     sym (ap (cut between) (drop_more d place 0 lt) ∙ cut-space (get_or d place 0) (drop (place + 1) d) (class-space (get_or d place 0) e))
+
+-- the spaces that come first, where one does
+pub spaces_more : (d : List ℕ) (place : ℕ) → place < length d → is_space (get_or d place 0) ≡ true →
+    place + length (first_spaces (drop place d)) ≡ place + 1 + length (first_spaces (drop (place + 1) d))
+spaces_more d place lt e =
+    let first : first_spaces (drop place d) ≡ get_or d place 0 ∷ first_spaces (drop (place + 1) d) =
+    ap first_spaces (drop_more d place 0 lt) ∙ rw e refl in
+    omega (arith, ap length first)
 
 pub space_ascii : (x : ℕ) → is_space x ≡ true → x < 128
 space_ascii = each_space (λ y. y < 128) (omega arith) (omega arith) (omega arith) (omega arith)

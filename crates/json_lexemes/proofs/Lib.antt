@@ -14,3 +14,9 @@ pub mod SpacedLexemes
 mod Spelling
 mod Values
 pub mod Grammar
+mod Reached
+mod Meeting
+mod Completed
+mod Accepted
+mod Stopped
+mod Begun

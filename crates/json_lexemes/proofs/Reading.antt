@@ -20,11 +20,11 @@ lex-gap : (g r : List ℕ) → IsGap g → lex between (g ++ r) ≡ lex between 
 lex-gap [] r h = refl
 lex-gap (x ∷ g) r h = lex-space x (g ++ r) (class-space x h.0) ∙ lex-gap g r h.1
 
-cut-gap : (g r : List ℕ) → IsGap g → cut between (g ++ r) ≡ cut between r
+pub cut-gap : (g r : List ℕ) → IsGap g → cut between (g ++ r) ≡ cut between r
 cut-gap [] r h = refl
 cut-gap (x ∷ g) r h = cut-space x (g ++ r) (class-space x h.0) ∙ cut-gap g r h.1
 
-gap_ends : (g r : List ℕ) → IsGap g → ends_word r ≡ true → ends_word (g ++ r) ≡ true
+pub gap_ends : (g r : List ℕ) → IsGap g → ends_word r ≡ true → ends_word (g ++ r) ≡ true
 gap_ends [] r h e = e
 gap_ends (x ∷ g) r h e = or_right (is_operator x) (is_space x) h.0
 

@@ -25,7 +25,7 @@ lexeme_passed g s r gap h =
     ∙ drop-append_seam s r
 
 -- the first lexeme of bytes, after its gap, and then those of the rest
-first_spaced : (bytes g s r : List ℕ) (ss : List (List ℕ)) → IsGap g → IsBegun s → bytes ≡ g ++ (s ++ r)
+pub first_spaced : (bytes g s r : List ℕ) (ss : List (List ℕ)) → IsGap g → IsBegun s → bytes ≡ g ++ (s ++ r)
     → spaced_as bytes (s ∷ ss) ≡ after_gap g s ∷ spaced_as r ss
 first_spaced bytes g s r ss gap h e =
     ap (λ (l : List ℕ). spaced_as l (s ∷ ss)) e

@@ -8,3 +8,6 @@ pub mod Lexer
 pub mod Words
 pub mod Expected
 pub mod Next
+pub mod Readings
+pub mod Steps
+pub mod Faults

@@ -3,6 +3,7 @@ ghost use Rattle.std.specs.Str.{IsCharBoundary};
 ghost use Rattle.json.specs.Word.{is_operator, is_space};
 ghost use Rattle.json.specs.Lex.{between, in_string, in_word};
 ghost use Rattle.json_lexemes.specs.Lexemes.{cut};
+ghost use Rattle.json_lexemes.specs.SpacedLexemes.{first_spaces};
 ghost use Rattle.json_lexemes.specs.View.{text_of, IsNamed, IsFirst};
 ghost use Rattle.json_lexemes.specs.Words.{WordGoesOn};
 
@@ -31,6 +32,7 @@ pub(crate) fn spaces_end(bytes: &[u8], from: usize) -> usize
     requires { from ≤ length bytes.now }
     ensures bounds { (from ≤ result) × (result ≤ length bytes.now) }
     ensures cut { cut between (drop result bytes.now) ≡ cut between (drop from bytes.now) }
+    ensures spaces { result ≡ from + length (first_spaces (drop from bytes.now)) }
     ensures after { from < result → slice_index bytes.now (result - 1) < 128 }
     ensures stops { result < length bytes.now → is_space (slice_index bytes.now result) ≡ false }
 {

@@ -16,6 +16,6 @@ mod string;
 pub use blank_lines::BlankLines;
 pub use expected::Expected;
 pub use fault::{Fault, fault_of};
-pub use laws::{law_grammar, law_joined, law_reading, law_spacing};
+pub use laws::{law_grammar, law_joined, law_reading, law_spacing, law_stops};
 pub use lexeme::Lexeme;
 pub use lexer::{Lexer, lexemes};

@@ -1,6 +1,13 @@
 //! What may come next in a JSON text, lexeme by lexeme.
-ghost use Rattle.std.specs.Prelude.{◌≡◌};
+ghost use Rattle.std.specs.Prelude.{◌≡◌, Some, None, cond, length, IfOk};
+ghost use Rattle.std.specs.List.{prefix_len};
+ghost use Rattle.std.specs.Str.{IsCharBoundary};
+ghost use Rattle.json_lexemes.specs.Faults.{IsExpectedBy, IsExpectedForString, IsInString, begins_value, expected_for_bracket};
+ghost use Rattle.json_lexemes.specs.Faults.{expects_string, is_plain, plain_front};
 ghost use Rattle.json_lexemes.specs.Next.{after_colon, after_comma, after_value, closes_array, closes_object, is_key, expects_value};
+ghost use Rattle.json_lexemes.specs.Readings as spec;
+ghost use Rattle.json_lexemes.specs.Steps.{Stepped, brackets_of, json_reading_of};
+ghost use Rattle.json_lexemes.specs.View.{IsNamed, text_of};
 
 use crate::expected::Expected;
 use crate::lexeme::Lexeme;
@@ -85,21 +92,52 @@ struct Open {
 }
 
 impl Open {
-    fn new(bracket: Bracket, offset: usize) -> Open {
+    fn new(bracket: Bracket, offset: usize) -> Open
+        ensures { result.bracket ≡ bracket }
+    {
         Open { bracket, offset }
     }
 }
 
-/// How many bytes of a word are letters, digits and what else numbers have, from its beginning on.
-fn plain_len(word: &str) -> usize {
+/// Whether this is a letter, a digit, or what else numbers have.
+fn is_plain(byte: u8) -> bool
+    ensures { result ≡ is_plain byte }
+{
+    byte.is_ascii_alphanumeric() || matches!(byte, b'+' | b'-' | b'.' | b'_')
+}
+
+/// How many bytes of a word are such, from its beginning on.
+fn plain_len(word: &str) -> usize
+    ensures len { result ≡ prefix_len is_plain word.now }
+    ensures boundary { IsCharBoundary word.now result }
+{
     let mut len = 0usize;
     for byte in word.as_bytes() {
-        if !byte.is_ascii_alphanumeric() && !matches!(*byte, b'+' | b'-' | b'.' | b'_') {
+        if !is_plain(*byte) {
             break;
         }
         len = len.saturating_add(1);
     }
     len
+}
+
+/// Whether a string or a word is JSON alone.
+///
+/// `AllocError` where memory is refused.
+fn is_leaf(text: &str, scratch: &mut Scratch<Global>) -> Result<bool, AllocError>
+    ensures { IfOk result (λ leaf. leaf ≡ spec.is_leaf text.now) }
+{
+    is_valid(text, scratch)
+}
+
+/// What was expected in a string that JSON does not have.
+fn expected_in(string: &str) -> Expected
+    ensures { IsInString result }
+{
+    match refused_part(string) {
+        Some(part) => part.expected,
+        None => Expected::Quote,
+    }
 }
 
 /// The lexemes that were read so far: the brackets that they left open, and what is to come next.
@@ -112,7 +150,7 @@ pub(crate) struct Reading {
 
 impl Reading {
     pub fn new(alloc: Global) -> Reading
-        ensures { result.next ≡ Expected.Value }
+        ensures { json_reading_of result ≡ spec.first_json_reading }
     {
         Reading {
             open: Vec::new(alloc),
@@ -122,7 +160,9 @@ impl Reading {
     }
 
     /// The innermost bracket that is open.
-    pub fn innermost(&self) -> Option<Bracket> {
+    pub fn innermost(&self) -> Option<Bracket>
+        ensures { result ≡ spec.innermost_bracket (brackets_of self.now.«open».items) }
+    {
         match self.open.last() {
             Some(open) => Some(open.bracket),
             None => None,
@@ -137,7 +177,10 @@ impl Reading {
         }
     }
 
-    fn open(&mut self, open: Open, next: Expected) -> Result<Option<Expected>, AllocError> {
+    fn open(&mut self, open: Open, next: Expected) -> Result<Option<Expected>, AllocError>
+        ensures { IfOk result (λ stopped. Stepped (json_reading_of self.old) (spec.opened (json_reading_of self.old) open.bracket next)
+            (λ e. e ≡ expected_for_bracket (json_reading_of self.old)) stopped (json_reading_of self.new)) }
+    {
         if !is_value(self.next) {
             return Ok(Some(self.next));
         }
@@ -149,7 +192,10 @@ impl Reading {
         Ok(None)
     }
 
-    fn close(&mut self, fits: bool) -> Option<Expected> {
+    fn close(&mut self, fits: bool) -> Option<Expected>
+        ensures { Stepped (json_reading_of self.old) (spec.closed_bracket (json_reading_of self.old) fits)
+            (λ e. e ≡ self.old.next) result (json_reading_of self.new) }
+    {
         if !fits {
             return Some(self.next);
         }
@@ -159,7 +205,10 @@ impl Reading {
     }
 
     /// Takes a comma or a colon, after which `next` is to come.
-    fn pass(&mut self, next: Option<Expected>) -> Option<Expected> {
+    fn pass(&mut self, next: Option<Expected>) -> Option<Expected>
+        ensures { Stepped (json_reading_of self.old) (spec.passed (json_reading_of self.old) next)
+            (λ e. e ≡ self.old.next) result (json_reading_of self.new) }
+    {
         match next {
             Some(next) => {
                 self.next = next;
@@ -169,38 +218,73 @@ impl Reading {
         }
     }
 
-    fn value(&mut self, text: &str) -> Result<Option<Expected>, AllocError> {
-        if !is_value(self.next) {
-            return Ok(Some(self.next));
+    /// Takes a string or a word, after which `next` is to come, if JSON has it.
+    fn take(&mut self, text: &str, next: Expected) -> Result<bool, AllocError>
+        ensures taken { IfOk result (λ taken. taken ≡ spec.is_leaf text.now) }
+        ensures reading { IfOk result (λ taken. json_reading_of self.new
+            ≡ cond taken (spec.before (json_reading_of self.old).open_brackets next) (json_reading_of self.old)) }
+    {
+        let is_leaf = is_leaf(text, &mut self.scratch)?;
+        if is_leaf {
+            self.next = next;
         }
-        let next = after_value(self.innermost());
-        self.leaf(text, next)
+        Ok(is_leaf)
     }
 
-    /// A string or a word, as a value or a key, after which `next` is to come.
-    fn leaf(&mut self, text: &str, next: Expected) -> Result<Option<Expected>, AllocError> {
-        if is_valid(text, &mut self.scratch)? {
-            self.next = next;
-            return Ok(None);
+    /// Takes a word, as a value.
+    fn word(&mut self, text: &str) -> Result<Option<Expected>, AllocError>
+        ensures { IfOk result (λ stopped. Stepped (json_reading_of self.old) (spec.valued (json_reading_of self.old) text.now)
+            (λ e. e ≡ self.old.next) stopped (json_reading_of self.new)) }
+    {
+        let expected = self.next;
+        if !is_value(expected) {
+            return Ok(Some(expected));
         }
-        Ok(Some(if !text.starts_with('"') {
-            self.next
+        let next = after_value(self.innermost());
+        Ok(if self.take(text, next)? {
+            None
         } else {
-            match refused_part(text) {
-                Some(part) => part.expected,
-                None => Expected::Quote,
-            }
-        }))
+            Some(expected)
+        })
+    }
+
+    /// Takes a string, as a key or a value.
+    fn string(&mut self, text: &str) -> Result<Option<Expected>, AllocError>
+        ensures { IfOk result (λ stopped. Stepped (json_reading_of self.old) (spec.keyed (json_reading_of self.old) text.now)
+            (IsExpectedForString (json_reading_of self.old)) stopped (json_reading_of self.new)) }
+    {
+        let next = if is_key(self.next) {
+            Expected::Colon
+        } else if is_value(self.next) {
+            after_value(self.innermost())
+        } else {
+            return Ok(Some(self.next));
+        };
+        Ok(if self.take(text, next)? {
+            None
+        } else {
+            Some(expected_in(text))
+        })
+    }
+
+    /// Whether a string may come.
+    pub fn expects_string(&self) -> bool
+        ensures { result ≡ expects_string self.now.next }
+    {
+        is_value(self.next) || is_key(self.next)
     }
 
     /// How long the value is that a longer word begins with, in bytes, and what may follow it. `None` where a word that JSON does
     /// not have begins with none, or where no value may come.
     ///
     /// `AllocError` where memory is refused.
-    pub fn value_in(&mut self, word: &str) -> Result<Option<(usize, Expected)>, AllocError> {
+    pub fn value_in(&mut self, word: &str) -> Result<Option<(usize, Expected)>, AllocError>
+        ensures { IfOk result (λ found. found ≡ cond (begins_value (json_reading_of self.old) word.now)
+            (Some (length (plain_front word.now), after_value (spec.innermost_bracket (json_reading_of self.old).open_brackets))) None) }
+    {
         let len = plain_len(word);
         let value = word.get(..len).unwrap_or("");
-        if is_value(self.next) && is_valid(value, &mut self.scratch)? {
+        if is_value(self.next) && is_leaf(value, &mut self.scratch)? {
             Ok(Some((len, after_value(self.innermost()))))
         } else {
             Ok(None)
@@ -214,7 +298,11 @@ impl Reading {
         &mut self,
         lexeme: Lexeme<'_>,
         offset: usize,
-    ) -> Result<Option<Expected>, AllocError> {
+    ) -> Result<Option<Expected>, AllocError>
+        ensures { IsNamed lexeme.entry → IfOk result (λ stopped. Stepped (json_reading_of self.old)
+            (spec.json_step (json_reading_of self.old) (text_of lexeme.entry))
+            (IsExpectedBy (spec.json_sort_of (text_of lexeme.entry)) (json_reading_of self.old)) stopped (json_reading_of self.new)) }
+    {
         match lexeme {
             Lexeme::OpenArray => self.open(
                 Open::new(Bracket::Array, offset),
@@ -228,8 +316,8 @@ impl Reading {
             Lexeme::CloseObject => Ok(self.close(closes_object(self.next))),
             Lexeme::Comma => Ok(self.pass(after_comma(self.next))),
             Lexeme::Colon => Ok(self.pass(after_colon(self.next))),
-            Lexeme::String(text) if is_key(self.next) => self.leaf(text, Expected::Colon),
-            Lexeme::String(text) | Lexeme::Word(text) => self.value(text),
+            Lexeme::String(text) => self.string(text),
+            Lexeme::Word(text) => self.word(text),
         }
     }
 }

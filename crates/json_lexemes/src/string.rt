@@ -1,4 +1,7 @@
 //! What JSON does not allow in a string.
+ghost use Rattle.std.specs.Prelude.{◌≡◌, ◌≤◌, Some, None, length, IfSome};
+ghost use Rattle.json_lexemes.specs.Faults.{IsInString};
+
 use crate::expected::Expected;
 
 /// How many hexadecimal digits an escape by number has, of the four that it is to have.
@@ -41,14 +44,18 @@ struct StringPart {
     expected: Option<Expected>,
 }
 
-fn allowed(len: usize) -> StringPart {
+fn allowed(len: usize) -> StringPart
+    ensures { result.expected ≡ None }
+{
     StringPart {
         len,
         expected: None,
     }
 }
 
-fn refused(len: usize, expected: Expected) -> StringPart {
+fn refused(len: usize, expected: Expected) -> StringPart
+    ensures { result.expected ≡ Some expected }
+{
     StringPart {
         len,
         expected: Some(expected),
@@ -56,7 +63,9 @@ fn refused(len: usize, expected: Expected) -> StringPart {
 }
 
 /// The escape by number with which these bytes begin, or the surrogate pair.
-fn number(bytes: &[u8]) -> StringPart {
+fn number(bytes: &[u8]) -> StringPart
+    ensures { IfSome result.expected IsInString }
+{
     let digits = digits(bytes);
     if digits < 4 {
         return refused(digits.saturating_add(2), Expected::Escape);
@@ -83,7 +92,9 @@ fn escape_len(bytes: &[u8]) -> usize {
 }
 
 /// The part with which these bytes begin.
-fn first_part(bytes: &[u8]) -> StringPart {
+fn first_part(bytes: &[u8]) -> StringPart
+    ensures { IfSome result.expected IsInString }
+{
     match (bytes.first(), bytes.get(1)) {
         (Some(b'\\'), Some(b'u')) => number(bytes),
         (Some(b'\\'), Some(b'"' | b'\\' | b'/' | b'b' | b'f' | b'n' | b'r' | b't')) => allowed(2),
@@ -107,7 +118,9 @@ pub(crate) struct RefusedPart<'s> {
 
 /// The first part of a string, spelled with its quotes, that JSON does not allow: an escape, half of a surrogate pair, the end of a
 /// line, or another control character.
-pub(crate) fn refused_part(string: &str) -> Option<RefusedPart<'_>> {
+pub(crate) fn refused_part(string: &str) -> Option<RefusedPart<'_>>
+    ensures { IfSome result (λ part. (part.offset ≤ length string.now) × IsInString part.expected) }
+{
     let bytes = string.as_bytes();
     let mut next = 1;
     for offset in 1..bytes.len() {
