@@ -10,7 +10,7 @@ use Rattle.json.specs.Json as json
 use Rattle.json.specs.Json.{Json, if_last, value}
 use Rattle.json.specs.Token.{Token, begin_object, end_object, begin_array, end_array, key, string, number, boolean, null, bad}
 use Rattle.json.specs.Word.{is_operator, is_space, head, ends_word, word}
-use Rattle.json.specs.Lex.{Lexeme, token, other, between, lex, punctuate, fresh}
+use Rattle.json.specs.Lex.{Lexeme, token, between, lex, punctuate, fresh}
 use Rattle.json.proofs.Grammar.{value_is}
 use Rattle.json_validity.specs.Document.{document, max_depth}
 use Rattle.json_lexemes.specs.Grammar.{Value, alone, array, object, Items, no_items, item, Members, no_members, member}
