@@ -1,12 +1,11 @@
 -- The bytes before where a text stops being JSON begin a text that is JSON.
-use Rattle.std.proofs.Common.{◌≡◌, ◌≢◌, ℕ, zero, suc, ◌+◌, ◌-◌, ◌≤◌, true, false, Bool, cond, ◌&&◌, List, [], ◌∷◌, ◌++◌, length, take}
+use Rattle.std.proofs.Common.{◌≡◌, ℕ, zero, suc, ◌-◌, ◌≤◌, true, false, Bool, cond, ◌&&◌, List, [], ◌∷◌, ◌++◌, length, take}
 use Rattle.std.proofs.Common.{reverse, Option, Some, None, option_and_then, refl, sym, ap, ◌∙◌, subst, arith, append-nil, append_assoc}
 use Rattle.std.specs.Prelude.{⊤}
 use Rattle.std.proofs.lemmas.Bool.{true≢false, and_parts, or_parts}
 use Rattle.std.proofs.lemmas.List.{length-append, reverse-reverse}
 use Rattle.std.proofs.Math.Seq.{take-append_seam}
 use Rattle.json.specs.Text.{content}
-use Rattle.json.specs.Token.{string}
 use Rattle.json.specs.Word.{is_operator, is_space, ends_word}
 use Rattle.json.specs.Lex.{Class, quote, backslash, operator, space, other, class, between, in_word, in_string, lex}
 use Rattle.json.proofs.Found.{Some_inj}
@@ -17,7 +16,7 @@ use Rattle.json_lexemes.specs.Next as next
 use Rattle.json_lexemes.specs.Next.{closes_array, closes_object, expects_value, is_key}
 use Rattle.json_lexemes.specs.Readings as sort
 use Rattle.json_lexemes.specs.Readings.{JsonReading, JsonSort, before, after_value_in, first_json_reading, is_leaf}
-use Rattle.json_lexemes.specs.Readings.{json_reading_after, json_sort_of, sort_step, valued}
+use Rattle.json_lexemes.specs.Readings.{json_reading_after, json_sort_of, json_step, sort_step, valued}
 use Rattle.json_lexemes.specs.Spaced.{IsGap}
 use Rattle.json_lexemes.specs.SpacedLexemes.{AreGaps, Spaced, after_gap, lexemes_of, put_together, spaced_as, spaced_lexemes}
 use Rattle.json_lexemes.specs.declared.expected.Expected.{Expected}
@@ -69,7 +68,8 @@ string_off : (f rest : List ℕ) → is_leaf (34 ∷ f) ≡ true → cut between
 string_off f rest leaf cuts r =
     let c = leaf_content f leaf in
     let w = whole_string f c.0 c.1 in
-    let more : w.front ++ (w.rest ++ rest) ≡ f ++ rest = sym (append_assoc w.front w.rest rest) ∙ ap (λ (l : List ℕ). l ++ rest) (sym w.is) in
+    let more : w.front ++ (w.rest ++ rest) ≡ f ++ rest =
+    sym (append_assoc w.front w.rest rest) ∙ ap (λ (l : List ℕ). l ++ rest) (sym w.is) in
     let again : cut between (34 ∷ (f ++ rest)) ≡ (34 ∷ w.front) ∷ cut between (w.rest ++ rest) =
     ap (λ (l : List ℕ). cut between (34 ∷ l)) (sym more) ∙ w.cuts (w.rest ++ rest) in
     let same : w.front ≡ f = cc in
@@ -102,7 +102,8 @@ module _ (n : ℕ) (shorter : (xs : List ℕ) → length xs ≤ n → HasCuts xs
       let says : IsOfClass other x = subst (λ c. IsOfClass c x) e (IsOfClass-class x) in
       let split : x ∷ xs ≡ (x ∷ w.front) ++ w.rest = ap (λ (l : List ℕ). x ∷ l) w.is in
       one_cut (x ∷ w.front) (x ∷ xs) w.rest (ap (cut between) split ∙ cut-word x w.front w.rest e w.run w.ended) split
-      (or_parts (is_operator x) (is_space x) says).1 (λ leaf r ends. cut-word x w.front r e w.run (ends w.ended)) (rest_cut w.front w.rest w.is)
+      (or_parts (is_operator x) (is_space x) says).1
+      (λ leaf r ends. cut-word x w.front r e w.run (ends w.ended)) (rest_cut w.front w.rest w.is)
 
   by_class : (x : ℕ) (c : Class) → class x ≡ c → IsOfClass c x → HasCuts (x ∷ xs)
   by_class x quote e says = subst (λ y. HasCuts (y ∷ xs)) (sym says) at_quote
@@ -165,8 +166,10 @@ read_cut : (text : List ℕ) (front rest : List Spaced) (more : List ℕ) → sp
     → ends_word more ≡ true
     → cut between (put_together front ++ more) ≡ lexemes_of front ++ cut between more
 read_cut text front rest more cuts leaves ended =
-    let all : lexemes text ≡ lexemes_of front ++ lexemes_of rest = sym (spaced_are_lexemes text) ∙ ap lexemes_of cuts ∙ lexemes_of-append front rest in
-    let h : AreCutOff text (lexemes_of front ++ lexemes_of rest) = subst (AreCutOff text) all (cuts_within (length text) text (omega arith)) in
+    let all : lexemes text ≡ lexemes_of front ++ lexemes_of rest =
+    sym (spaced_are_lexemes text) ∙ ap lexemes_of cuts ∙ lexemes_of-append front rest in
+    let h : AreCutOff text (lexemes_of front ++ lexemes_of rest) =
+    subst (AreCutOff text) all (cuts_within (length text) text (omega arith)) in
     let f = front_of (lexemes_of front) (lexemes_of rest) text more h leaves ended in
     let both : front ++ rest ≡ f.ps ++ f.later = sym cuts ∙ ap (spaced_as text) all ∙ f.splits in
     let count : length front ≡ length f.ps = sym (same_count front) ∙ ap length (sym f.same) ∙ same_count f.ps in
@@ -221,21 +224,31 @@ Finishes r bytes = json_reading_after r (cut between bytes) ≡ Some finished
 abbrev AfterValue : List Bracket → Type 0
 AfterValue bs = Finishes (after_value_in (reverse bs)) (closers bs)
 
-array_finishes : (bs : List Bracket) (n : Expected) → closes_array n ≡ true → AfterValue bs → Finishes (before (reverse (Array ∷ bs)) n) (closers (Array ∷ bs))
-array_finishes bs n e h =
-    ap (json_reading_after (before (reverse (Array ∷ bs)) n)) (cut-sign 93 (closers bs) refl)
-    ∙ ap (λ (l : List Bracket). json_reading_after (before l n) ((93 ∷ []) ∷ cut between (closers bs))) (reversed Array bs)
-    ∙ stepped (before (reverse bs ++ Array ∷ []) n) (after_value_in (reverse bs)) (93 ∷ []) (cut between (closers bs))
-    (ap (λ b. cond b (Some (after_value_in (take (length (reverse bs ++ Array ∷ []) - 1) (reverse bs ++ Array ∷ [])))) None) e ∙ close_step (reverse bs) Array)
+-- a list is ended where its closing bracket may stand
+closed : (b : Bracket) (bs : List Bracket) (closes : Bool) → closes ≡ true
+    → cond closes (Some (after_value_in (take (length (reverse bs ++ b ∷ []) - 1) (reverse bs ++ b ∷ [])))) None
+    ≡ Some (after_value_in (reverse bs))
+closed b bs closes e =
+    ap (λ c. cond c (Some (after_value_in (take (length (reverse bs ++ b ∷ []) - 1) (reverse bs ++ b ∷ [])))) None) e
+    ∙ close_step (reverse bs) b
+
+-- its closing bracket leads on to what finishes the lists around it
+bracket_finishes : (b : Bracket) (sign : ℕ) (bs : List Bracket) (n : Expected) → class sign ≡ operator
+    → json_step (before (reverse bs ++ b ∷ []) n) (sign ∷ []) ≡ Some (after_value_in (reverse bs)) → AfterValue bs
+    → Finishes (before (reverse (b ∷ bs)) n) (sign ∷ closers bs)
+bracket_finishes b sign bs n is step h =
+    ap (json_reading_after (before (reverse (b ∷ bs)) n)) (cut-sign sign (closers bs) is)
+    ∙ ap (λ (l : List Bracket). json_reading_after (before l n) ((sign ∷ []) ∷ cut between (closers bs))) (reversed b bs)
+    ∙ stepped (before (reverse bs ++ b ∷ []) n) (after_value_in (reverse bs)) (sign ∷ []) (cut between (closers bs)) step
     ∙ h
 
-object_finishes : (bs : List Bracket) (n : Expected) → closes_object n ≡ true → AfterValue bs → Finishes (before (reverse (Object ∷ bs)) n) (closers (Object ∷ bs))
-object_finishes bs n e h =
-    ap (json_reading_after (before (reverse (Object ∷ bs)) n)) (cut-sign 125 (closers bs) refl)
-    ∙ ap (λ (l : List Bracket). json_reading_after (before l n) ((125 ∷ []) ∷ cut between (closers bs))) (reversed Object bs)
-    ∙ stepped (before (reverse bs ++ Object ∷ []) n) (after_value_in (reverse bs)) (125 ∷ []) (cut between (closers bs))
-    (ap (λ b. cond b (Some (after_value_in (take (length (reverse bs ++ Object ∷ []) - 1) (reverse bs ++ Object ∷ [])))) None) e ∙ close_step (reverse bs) Object)
-    ∙ h
+array_finishes : (bs : List Bracket) (n : Expected) → closes_array n ≡ true → AfterValue bs
+    → Finishes (before (reverse (Array ∷ bs)) n) (closers (Array ∷ bs))
+array_finishes bs n e h = bracket_finishes Array 93 bs n refl (closed Array bs (closes_array n) e) h
+
+object_finishes : (bs : List Bracket) (n : Expected) → closes_object n ≡ true → AfterValue bs
+    → Finishes (before (reverse (Object ∷ bs)) n) (closers (Object ∷ bs))
+object_finishes bs n e h = bracket_finishes Object 125 bs n refl (closed Object bs (closes_object n) e) h
 
 after_first : (bs : List Bracket) → after_value_in (reverse bs) ≡ before (reverse bs) (next.after_value (first bs))
 after_first bs = ap (λ (o : Option Bracket). before (reverse bs) (next.after_value o)) (innermost_first bs)
@@ -287,7 +300,8 @@ finishes : (bs : List Bracket) (n : Expected) → Fits bs n → (bytes : List �
 unfolding cut
 finishes bs want.Value fits = (34 ∷ 34 ∷ closers bs, value_finishes bs)
 finishes [] want.ValueOrBracket fits = absurd fits
-finishes (Array ∷ bs) want.ValueOrBracket fits = (closers (Array ∷ bs), array_finishes bs want.ValueOrBracket refl (after_value_finishes bs))
+finishes (Array ∷ bs) want.ValueOrBracket fits =
+    (closers (Array ∷ bs), array_finishes bs want.ValueOrBracket refl (after_value_finishes bs))
 finishes (Object ∷ bs) want.ValueOrBracket fits = absurd fits
 finishes bs want.Key fits = (34 ∷ 34 ∷ 58 ∷ 34 ∷ 34 ∷ closers bs, key_finishes bs)
 finishes [] want.KeyOrBrace fits = absurd fits
@@ -295,7 +309,8 @@ finishes (Array ∷ bs) want.KeyOrBrace fits = absurd fits
 finishes (Object ∷ bs) want.KeyOrBrace fits = (closers (Object ∷ bs), object_finishes bs want.KeyOrBrace refl (after_value_finishes bs))
 finishes bs want.Colon fits = (58 ∷ 34 ∷ 34 ∷ closers bs, colon_finishes bs)
 finishes [] want.CommaOrBracket fits = absurd fits
-finishes (Array ∷ bs) want.CommaOrBracket fits = (closers (Array ∷ bs), array_finishes bs want.CommaOrBracket refl (after_value_finishes bs))
+finishes (Array ∷ bs) want.CommaOrBracket fits =
+    (closers (Array ∷ bs), array_finishes bs want.CommaOrBracket refl (after_value_finishes bs))
 finishes (Object ∷ bs) want.CommaOrBracket fits = absurd fits
 finishes [] want.CommaOrBrace fits = absurd fits
 finishes (Array ∷ bs) want.CommaOrBrace fits = absurd fits
@@ -315,7 +330,8 @@ begins text rest reading gap reached is_gap =
     let obs = reading.open_brackets in
     let end = finishes (reverse obs) reading.next good.0 in
     let more : List ℕ = gap ++ (32 ∷ end.0) in
-    let bytes : (put_together front ++ gap) ++ (32 ∷ end.0) ≡ put_together front ++ more = append_assoc (put_together front) gap (32 ∷ end.0) in
+    let bytes : (put_together front ++ gap) ++ (32 ∷ end.0) ≡ put_together front ++ more =
+    append_assoc (put_together front) gap (32 ∷ end.0) in
     let cuts = read_cut text front rest more reached.cut leaves (gap_ends gap (32 ∷ end.0) is_gap refl) in
     let tail : cut between more ≡ cut between end.0 = cut-gap gap (32 ∷ end.0) is_gap ∙ cut-space 32 end.0 refl in
     let start : reading ≡ before (reverse (reverse obs)) reading.next =
@@ -344,7 +360,8 @@ fronts_begin text offset e stop =
     let split : text ≡ whole ++ (later ++ joined.0) =
     joined.2
     ∙ ap (λ (l : List Spaced). put_together l ++ joined.0) stop.reached.cut
-    ∙ ap (λ (l : List ℕ). l ++ joined.0) (together-append front (found ∷ stop.later) ∙ sym (append_assoc (put_together front) found.gap later))
+    ∙ ap (λ (l : List ℕ). l ++ joined.0) (together-append front (found ∷ stop.later)
+    ∙ sym (append_assoc (put_together front) found.gap later))
     ∙ append_assoc whole later joined.0 in
     let count : offset - stop.within ≡ length whole = omega (arith, stop.place, length-append (put_together front) found.gap) in
     let before_it : take (offset - stop.within) text ≡ whole =

@@ -11,7 +11,8 @@ use Rattle.json_lexemes.specs.Faults.{StopsAtEnd, StopsAtLexeme, StopsBeingJson}
 use Rattle.json_lexemes.specs.Lexemes.{lexemes}
 use Rattle.json_lexemes.specs.Readings.{JsonReading, first_json_reading, json_step, json_reading_after, json_sort_of, JsonSort}
 use Rattle.json_lexemes.specs.Readings.{open_array, close_array, open_object, close_object, comma, colon, string, word}
-use Rattle.json_lexemes.specs.SpacedLexemes.{Spaced, after_gap, after_lexeme, first_spaces, lexemes_of, put_together, spaced_as, spaced_lexemes}
+use Rattle.json_lexemes.specs.SpacedLexemes.{Spaced, after_gap, after_lexeme, first_spaces, lexemes_of, put_together}
+use Rattle.json_lexemes.specs.SpacedLexemes.{spaced_as, spaced_lexemes}
 use Rattle.json_lexemes.specs.declared.expected.Expected.{Expected}
 use Rattle.json_lexemes.specs.declared.expected.Expected.TheVariants as want
 use Rattle.json_lexemes.specs.declared.fault.Stop.{Stop}

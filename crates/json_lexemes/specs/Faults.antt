@@ -8,7 +8,8 @@ use Rattle.text_places.specs.Places.{IsPlace}
 use Rattle.text_places.specs.declared.place.Place.{Place}
 use Rattle.json.specs.Ascii as ascii
 use Rattle.json_lexemes.specs.Next.{after_value, expects_value, is_key}
-use Rattle.json_lexemes.specs.Readings.{JsonReading, first_json_reading, innermost_bracket, is_leaf, json_step, json_reading_after, JsonSort, json_sort_of}
+use Rattle.json_lexemes.specs.Readings.{JsonReading, first_json_reading, innermost_bracket, is_leaf, json_step}
+use Rattle.json_lexemes.specs.Readings.{json_reading_after, JsonSort, json_sort_of}
 use Rattle.json_lexemes.specs.Readings.{open_array, close_array, open_object, close_object, comma, colon, string, word}
 use Rattle.json_lexemes.specs.SpacedLexemes.{Spaced, lexemes_of, put_together, spaced_lexemes}
 use Rattle.json_lexemes.specs.declared.expected.Expected.{Expected}

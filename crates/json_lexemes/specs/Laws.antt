@@ -56,7 +56,8 @@ BeginsJson bytes = (rest : List ℕ) × IsSome (document (bytes ++ rest))
 
 -- such are the bytes before the lexeme where a text stops being JSON
 abbrev pub FrontsBeginJson : Type 0
-FrontsBeginJson = (text : List ℕ) (offset : ℕ) (e : Expected) (stop : StopsAtLexeme text offset e) → BeginsJson (take (offset - stop.within) text)
+FrontsBeginJson = (text : List ℕ) (offset : ℕ) (e : Expected) (stop : StopsAtLexeme text offset e)
+    → BeginsJson (take (offset - stop.within) text)
 
 -- and all bytes of a text that stops at its end
 abbrev pub TextsBeginJson : Type 0

@@ -115,8 +115,9 @@ fn stop_at<'t>(
 ) -> Result<Stop<'t>, AllocError>
     requires { offset + length (text_of lexeme) < 2 ^ 64 }
     ensures { IsNamed lexeme.entry → IsExpectedBy (json_sort_of (text_of lexeme.entry)) (json_reading_of reading.old) expected
-        → IfOk result (λ stop. IsStopFrom offset stop.offset
-        (λ within. IsFaultBy (json_sort_of (text_of lexeme.entry)) (json_reading_of reading.old) (text_of lexeme.entry) within stop.expected)) }
+        → IfOk result (λ stop. IsStopFrom offset stop.offset (λ within.
+        IsFaultBy (json_sort_of (text_of lexeme.entry)) (json_reading_of reading.old) (text_of lexeme.entry) within
+        stop.expected)) }
 {
     match lexeme {
         Lexeme::String(text) if reading.expects_string() => Ok(stop_in_string(text, offset)),
