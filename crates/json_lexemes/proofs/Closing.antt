@@ -1,6 +1,6 @@
 -- Where a quote closes a string, so that it is JSON.
-use Rattle.std.proofs.Common.{◌≡◌, ℕ, suc, ◌+◌, ◌-◌, ◌<◌, ◌≤◌, Bool, true, false, List, [], ◌∷◌, ◌++◌, length, take, drop, get_or}
-use Rattle.std.proofs.Common.{Option, Some, None, option_and_then, is_some, refl, sym, ap, ap₂, ◌∙◌, subst, arith, inl, inr, ◌⊎◌, append-nil, append_assoc, take-add}
+use Rattle.std.proofs.Common.{◌≡◌, ℕ, suc, ◌+◌, ◌-◌, ◌≤◌, Bool, true, false, List, [], ◌∷◌, ◌++◌, length, take, drop, get_or}
+use Rattle.std.proofs.Common.{Option, Some, None, option_and_then, is_some, refl, sym, ap, ap₂, ◌∙◌, arith, inl, inr, append-nil, append_assoc, take-add}
 use Rattle.std.proofs.lemmas.List.{length-append, length-drop, take-append-drop}
 use Rattle.json.specs.Json.{if_last, value, max_depth}
 use Rattle.json.specs.Text.{content, plain, prepend}

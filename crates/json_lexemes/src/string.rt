@@ -87,10 +87,7 @@ fn number(bytes: &[u8]) -> Option<usize>
 fn is_short(byte: u8) -> bool
     ensures { result ≡ is_some (short_escape byte) }
 {
-    matches!(
-        byte,
-        b'"' | b'\\' | b'/' | b'b' | b'f' | b'n' | b'r' | b't'
-    )
+    matches!(byte, b'"' | b'\\' | b'/' | b'b' | b'f' | b'n' | b'r' | b't')
 }
 
 /// How many bytes an escape has after its backslash. `None` where JSON does not allow what comes there.
@@ -101,11 +98,7 @@ fn escape(bytes: &[u8]) -> Option<usize>
     if *first == b'u' {
         return Some(1 + number(rest)?);
     }
-    if is_short(*first) {
-        Some(1)
-    } else {
-        None
-    }
+    if is_short(*first) { Some(1) } else { None }
 }
 
 /// How many bytes the part of a string has that comes first: a byte that stands for itself, an escape, or a surrogate pair of two

@@ -1,4 +1,4 @@
-use Rattle.std.proofs.Common.{arith, ◌∙◌}
+use Rattle.std.proofs.Common.{arith}
 use Rattle.json.specs.Text.{code_unit}
 use Rattle.json_lexemes.proofs.Content.{unit_at}
 use Rattle.json_lexemes.proofs.string.code_unit.Goals as goal

@@ -1,4 +1,4 @@
-use Rattle.std.proofs.Common.{sym, ◌∙◌, arith}
+use Rattle.std.proofs.Common.{sym, ◌∙◌}
 use Rattle.json_lexemes.proofs.Content.{never_ended, never_number, never_short, reads_number, reads_short}
 use Rattle.json_lexemes.proofs.string.escape.Goals as goal
 

@@ -1,5 +1,5 @@
 use Rattle.std.proofs.Common.{arith}
-use Rattle.json_lexemes.proofs.Content.{no_part_control, no_part_escape, no_part_quote, part_byte, part_escape}
+use Rattle.json_lexemes.proofs.Content.{no_part_control, no_part_escape, part_byte, part_escape}
 use Rattle.json_lexemes.proofs.string.first_part.Goals as goal
 
 pub returns-in_err-escape-in-92 : goal.returns-in_err-escape-in-92

@@ -1,4 +1,3 @@
-use Rattle.std.proofs.Common.{arith}
 use Rattle.json_lexemes.proofs.Content.{take_rest}
 use Rattle.json_lexemes.proofs.Closing.{longest_closed, reads_more}
 use Rattle.json_lexemes.proofs.string.parts.Goals as goal

@@ -1,4 +1,4 @@
-use Rattle.std.proofs.Common.{arith, ◌≡◌, Some, None, sym, ap, ◌∙◌, cond, ◌&&◌, ◌==◌}
+use Rattle.std.proofs.Common.{Some, None, sym, ap, ◌∙◌, cond, ◌&&◌, ◌==◌}
 use Rattle.json_lexemes.proofs.Content.{if_all, never_half, no_second, none_of, one_alone, reads_half}
 use Rattle.json_lexemes.proofs.string.second_half.Goals as goal
 
