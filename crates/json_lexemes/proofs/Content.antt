@@ -1,5 +1,5 @@
 -- The content of a string, part by part.
-use Rattle.std.proofs.Common.{◌≡◌, ◌≢◌, ℕ, suc, ◌+◌, ◌-◌, ◌*◌, ◌<◌, ◌≤◌, ◌==◌, Bool, true, false, cond, ◌&&◌, List, [], ◌∷◌, ◌++◌, length, take, drop}
+use Rattle.std.proofs.Common.{◌≡◌, ◌≢◌, ℕ, suc, ◌+◌, ◌-◌, ◌*◌, ◌<◌, ◌≤◌, ◌==◌, nat_lt, Bool, true, false, cond, ◌&&◌, List, [], ◌∷◌, ◌++◌, length, take, drop}
 use Rattle.std.proofs.Common.{get_or, Option, Some, None, option_and_then, is_some, refl, sym, ap, ◌∙◌, subst, arith, ◌⊎◌, inl, inr}
 use Rattle.std.specs.Prelude.{⊤}
 use Rattle.std.specs.Char.{digit_value, is_digit, encode_utf8}
@@ -7,9 +7,10 @@ use Rattle.std.proofs.lemmas.List.{length-drop}
 use Rattle.std.proofs.Math.Seq.{take-length}
 use Rattle.json.specs.Text.{plain, after_backslash, after_u, after_high, code_unit, content, prepend, short_escape}
 use Rattle.json.specs.Text.{is_high_surrogate, is_low_surrogate, surrogate_pair}
-use Rattle.std.proofs.lemmas.Bool.{false≢true, le-ltb, lt-ltb, ne_eqb, true≢false}
+use Rattle.std.proofs.lemmas.Bool.{cases_Bool, false≢true, le-ltb, lt-ltb, ltb-false, ltb-true, ne_eqb, true≢false}
 use Rattle.json.proofs.Found.{not_found}
-use Rattle.json_lexemes.specs.Strings.{HasNoPart, IsPart, IsStringFault, NeverCloses, Reads, first_unit, is_lone_backslash}
+use Rattle.json_lexemes.specs.Laws.{StringsStopOnce}
+use Rattle.json_lexemes.specs.Strings.{HasNoPart, IsLongestClosed, IsPart, IsStringFault, NeverCloses, Reads, expected_in_string, first_unit, is_lone_backslash}
 use Rattle.json_lexemes.specs.declared.expected.Expected.{Expected}
 
 pub string_within : (s : List ℕ) (d : ℕ) (e : Expected) → IsStringFault s d e → d ≤ length s
@@ -18,6 +19,23 @@ string_within s d e h = omega (arith, h.place, one_of (is_lone_backslash (drop h
     one_of : (b : Bool) → h.allowed ≤ length s → cond b (length s) h.allowed ≤ length s
     one_of true le = omega arith
     one_of false le = le
+
+-- neither of two stops is before the other
+no_less : (s : List ℕ) (n m : ℕ) → IsLongestClosed s n → IsLongestClosed s m → n < m → ⊥
+no_less s n m a b less = true≢false (sym b.closed ∙ a.longest m less b.within)
+
+pub stops_once : StringsStopOnce
+stops_once s d other e f a b =
+    let same : a.allowed ≡ b.allowed = by (cases_Bool (nat_lt a.allowed b.allowed)) (cases_Bool (nat_lt b.allowed a.allowed)) in (
+      a.place ∙ ap (λ k. cond (is_lone_backslash (drop k s)) (length s) k) same ∙ sym b.place,
+      a.expects ∙ ap (λ k. expected_in_string (drop k s)) same ∙ sym b.expects,
+    )
+  where
+    by : (nat_lt a.allowed b.allowed ≡ true) ⊎ (nat_lt a.allowed b.allowed ≡ false) →
+        (nat_lt b.allowed a.allowed ≡ true) ⊎ (nat_lt b.allowed a.allowed ≡ false) → a.allowed ≡ b.allowed
+    by (inl l) r = absurd (no_less s a.allowed b.allowed a.longest b.longest (ltb-true a.allowed b.allowed l))
+    by (inr l) (inl r) = absurd (no_less s b.allowed a.allowed b.longest a.longest (ltb-true b.allowed a.allowed r))
+    by (inr l) (inr r) = omega (arith, ltb-false a.allowed b.allowed l, ltb-false b.allowed a.allowed r)
 
 -- what a slice has from a place on
 pub take_rest : (n : ℕ) (xs : List ℕ) → take (length xs - n) (drop n xs) ≡ drop n xs
