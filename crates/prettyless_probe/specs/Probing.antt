@@ -23,9 +23,9 @@ read_of (Some b) = Answer b
 read_of None = Silent
 
 -- an answer, or none, as a look
-abbrev pub look_of : Option Bool → Column → Bool → Look
-look_of (Some b) c p = Answers b
-look_of None c p = GoesOn c p
+abbrev pub look_by_answer : Option Bool → Column → Bool → Look
+look_by_answer (Some b) c p = Answers b
+look_by_answer None c p = GoesOn c p
 
 -- where this is an answer, x is that answer; else x is what comes, from this column on, of the node that is read next, if
 -- there is one, and of the tasks after it

@@ -12,7 +12,7 @@ ghost use Rattle.prettyless_model.specs.declared.column.Column.{Column};
 ghost use Rattle.prettyless_probe.specs.declared.probe.ProbeLine.{ProbeLine};
 ghost use Rattle.prettyless_probe.specs.declared.probe.ProbeStep.TheVariants.{Answer, Silent, Descend};
 ghost use Rattle.prettyless_probe.specs.declared.probe.Fit.TheVariants.{FitsAsTexts, Fits, Exceeds};
-ghost use Rattle.prettyless_probe.specs.Probing.{Few, ReadsAs, RisesBy, RoomAt, TextsAt, is_fit, look_of, nodes_next, read_in, read_of};
+ghost use Rattle.prettyless_probe.specs.Probing.{Few, ReadsAs, RisesBy, RoomAt, TextsAt, is_fit, look_by_answer, nodes_next, read_in, read_of};
 ghost use Rattle.prettyless_probe.specs.Reads.{IsFew, RisesTo, by_sums, probe_reads, reads_all, reads_below, reads_next, reads_on};
 ghost use Rattle.prettyless_probe.specs.Sums.{IsSummed};
 ghost use Rattle.prettyless_probe.specs.Stack.{IsCursor, Task, follow, in_break, make_task, nodes, stack_of, task, tasks_fit};
@@ -136,7 +136,7 @@ fn read_line_end(width: usize, line: &ProbeLine, mode: Mode) -> bool
 // Reads a weak line, which is nothing on a fresh line where no suffix is pending. Its indent does not matter.
 #[inline(always)]
 fn read_weak_line(width: usize, line: &ProbeLine, mode: Mode) -> Option<bool>
-    ensures { look width WeakLine 0 mode line.now.column line.now.pending ≡ look_of result line.now.column line.now.pending }
+    ensures { look width WeakLine 0 mode line.now.column line.now.pending ≡ look_by_answer result line.now.column line.now.pending }
 {
     if line.column.fresh && !line.pending {
         return None;

@@ -129,7 +129,7 @@ fn count<'a, T: DocPtr<'a>>(memory: Global, document: &T) -> Option<Visits> {
     }
 }
 
-// Prints that a pair in a group is probed by one visit over a table, and by six where that is refused memory.
+// Prints how many visits the probes of a pair in a group take: one over a table, six where that is refused memory.
 fn print_counted<R: AllocGlobal + Print>(rt: &R) -> Option<()> {
     let boxes = BoxAllocator::new(rt.alloc());
     let pair = build(&boxes, COUNTED)?;
@@ -142,7 +142,7 @@ fn print_counted<R: AllocGlobal + Print>(rt: &R) -> Option<()> {
         return None;
     }
     let name = COUNTED.name();
-    println!(rt; "-- counted: {name}").ok()
+    println!(rt; "-- counted: {name}, visits of probes: {probes}").ok()
 }
 
 // Builds each document, and prints its layout. So it does of the one that was built first, after all others.
