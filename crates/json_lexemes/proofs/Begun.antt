@@ -1,6 +1,6 @@
 -- The bytes before where a text stops being JSON begin a text that is JSON.
-use Rattle.std.proofs.Common.{◌≡◌, ℕ, zero, suc, ◌+◌, ◌-◌, ◌≤◌, true, false, Bool, cond, ◌&&◌, ◌||◌, List, [], ◌∷◌, ◌++◌, length, take, drop}
-use Rattle.std.proofs.Common.{reverse, Option, Some, None, option_and_then, refl, sym, ap, ◌∙◌, subst, arith, append-nil, append_assoc}
+use Rattle.std.proofs.Common.{◌≡◌, ℕ, zero, suc, ◌+◌, ◌-◌, ◌≤◌, true, false, Bool, cond, ◌&&◌, ◌||◌, List, [], ◌∷◌}
+use Rattle.std.proofs.Common.{◌++◌, length, take, drop, reverse, Option, Some, None, option_and_then, refl, sym, ap, ◌∙◌, subst, arith, append-nil, append_assoc}
 use Rattle.std.specs.Prelude.{⊤}
 use Rattle.std.proofs.lemmas.Bool.{true≢false, and_parts, or_parts}
 use Rattle.std.proofs.lemmas.List.{length-append, reverse-reverse, take-append-le}
@@ -131,7 +131,8 @@ record Front (xs : List ℕ) (ss others : List (List ℕ)) : Type 0 where
   splits : spaced_as xs (ss ++ others) ≡ ps ++ spaced_as here others
   same : lexemes_of ps ≡ ss
   cuts : (more : List ℕ) → (ends_word here ≡ true → ends_word more ≡ true) → cut between (put_together ps ++ more) ≡ ss ++ cut between more
-  ends : (more : List ℕ) → (ends_word here ≡ true → ends_word more ≡ true) → ends_word xs ≡ true → ends_word (put_together ps ++ more) ≡ true
+  ends : (more : List ℕ) → (ends_word here ≡ true → ends_word more ≡ true) → ends_word xs ≡ true
+      → ends_word (put_together ps ++ more) ≡ true
 
 same_start : (g s a b : List ℕ) → IsBegun s → ends_word (g ++ (s ++ a)) ≡ true → ends_word (g ++ (s ++ b)) ≡ true
 same_start [] [] a b h e = absurd h
@@ -506,4 +507,5 @@ strings_begin text offset e stop fault opens may =
         let closed : is_leaf (34 ∷ (take n f ++ 34 ∷ [])) ≡ true = sym (ap (λ (l : List ℕ). is_closed_at l (suc n)) is) ∙ leaf in
         let step = string_step stop.reading (34 ∷ (take n f ++ 34 ∷ [])) closed may in
         subst (λ (l : List ℕ). BeginsJson (bytes_before text offset e stop ++ take (suc n) l)) (sym is)
-        (begins_string text stop.found stop.later stop.reading step.0 stop.reached (gap_before text offset e stop) f (take n f) is closed step.1)
+        (begins_string text stop.found stop.later stop.reading step.0 stop.reached (gap_before text offset e stop) f (take n f) is closed
+        step.1)

@@ -1,13 +1,14 @@
 -- Where a quote closes a string, so that it is JSON.
 use Rattle.std.proofs.Common.{◌≡◌, ℕ, suc, ◌+◌, ◌-◌, ◌≤◌, Bool, true, false, List, [], ◌∷◌, ◌++◌, length, take, drop, get_or}
-use Rattle.std.proofs.Common.{Option, Some, None, option_and_then, is_some, refl, sym, ap, ap₂, ◌∙◌, arith, inl, inr, append-nil, append_assoc, take-add}
+use Rattle.std.proofs.Common.{Option, Some, None, option_and_then, is_some, refl, sym, ap, ap₂, ◌∙◌, arith, inl, inr}
+use Rattle.std.proofs.Common.{append-nil, append_assoc, take-add}
 use Rattle.std.proofs.lemmas.Bool.{true≢false}
 use Rattle.std.proofs.lemmas.List.{length-append, length-drop, take-append-drop}
 use Rattle.json.specs.Json.{if_last, value, max_depth}
 use Rattle.json.specs.Text.{content, plain, prepend}
 use Rattle.json.specs.Token.{Token, begin_object, end_object, begin_array, end_array, key, string, number, boolean, null, bad}
-use Rattle.json.specs.Lex.{Lexeme, token, comma, colon, Class, quote, backslash, operator, space, other, class, between, in_string, lex, lex_byte}
-use Rattle.json.specs.Lex.{string_token, Place, fresh, after_value, after_comma, if_allowed, place_token, punctuate, begins_colon}
+use Rattle.json.specs.Lex.{Lexeme, token, comma, colon, Class, quote, backslash, operator, space, other, class, between}
+use Rattle.json.specs.Lex.{in_string, lex, lex_byte, string_token, Place, fresh, after_value, after_comma, if_allowed, place_token, punctuate, begins_colon}
 use Rattle.json.proofs.Grammar.{value_is}
 use Rattle.json_lexemes.specs.Lexemes.{cut}
 use Rattle.json_lexemes.specs.Readings.{is_leaf}
