@@ -8,7 +8,8 @@ use Rattle.json.specs.Json.{if_last, value, max_depth}
 use Rattle.json.specs.Text.{content, plain, prepend}
 use Rattle.json.specs.Token.{Token, begin_object, end_object, begin_array, end_array, key, string, number, boolean, null, bad}
 use Rattle.json.specs.Lex.{Lexeme, token, comma, colon, Class, quote, backslash, operator, space, other, class, between}
-use Rattle.json.specs.Lex.{in_string, lex, lex_byte, string_token, Place, fresh, after_value, after_comma, if_allowed, place_token, punctuate, begins_colon}
+use Rattle.json.specs.Lex.{in_string, lex, lex_byte, string_token, Place, fresh, after_value, after_comma, if_allowed, place_token}
+use Rattle.json.specs.Lex.{begins_colon, punctuate}
 use Rattle.json.proofs.Grammar.{value_is}
 use Rattle.json_lexemes.specs.Lexemes.{cut}
 use Rattle.json_lexemes.specs.Readings.{is_leaf}
