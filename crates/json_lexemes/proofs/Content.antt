@@ -11,7 +11,7 @@ use Rattle.json.specs.Text.{is_high_surrogate, is_low_surrogate, surrogate_pair}
 use Rattle.std.proofs.lemmas.Bool.{cases_Bool, false≢true, le-ltb, lt-ltb, ltb-false, ltb-true, ne_eqb, true≢false}
 use Rattle.json.proofs.Found.{not_found}
 use Rattle.json_lexemes.specs.Laws.{StringsStopOnce}
-use Rattle.json_lexemes.specs.Strings.{HasNoPart, IsLongestClosed, IsPart, IsStringFault, NeverCloses, Reads}
+use Rattle.json_lexemes.specs.Strings.{HasNoPart, IsLongestClosed, IsStringPart, IsStringFault, NeverCloses, Reads}
 use Rattle.json_lexemes.specs.Strings.{expected_in_string, first_unit, is_lone_backslash}
 use Rattle.json_lexemes.specs.declared.expected.Expected.{Expected}
 
@@ -335,7 +335,7 @@ module _ (x : ℕ) (xs bytes : List ℕ) (split : bytes ≡ x ∷ xs) where
       (cond (ne_eqb x 92 (λ z. omega arith) i) (content after_backslash (front ++ 34 ∷ []))
       (cond (lt-ltb x 32 low i) None (prepend (x ∷ []) (content plain (front ++ 34 ∷ [])))))))
 
-  pub part_escape : (k : ℕ) → x ≡ 92 → Reads after_backslash xs k → IsPart bytes (1 + k)
+  pub part_escape : (k : ℕ) → x ≡ 92 → Reads after_backslash xs k → IsStringPart bytes (1 + k)
   unfolding content
   part_escape k b escape =
       let longer : 1 + k ≡ suc k = omega arith in
@@ -352,7 +352,7 @@ module _ (x : ℕ) (xs bytes : List ℕ) (split : bytes ≡ x ∷ xs) where
         };
       }
 
-  pub part_byte : x ≢ 92 → x ≢ 34 → 32 ≤ x → IsPart bytes 1
+  pub part_byte : x ≢ 92 → x ≢ 34 → 32 ≤ x → IsStringPart bytes 1
   unfolding content
   part_byte b q high =
       record {

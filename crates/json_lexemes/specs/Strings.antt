@@ -70,7 +70,7 @@ abbrev pub NeverCloses : Within → List ℕ → Type 0
 NeverCloses w bytes = (front rest : List ℕ) → bytes ≡ front ++ rest → content w (front ++ ascii.quote ∷ []) ≡ None
 
 -- a part of a string, which has some byte
-pub record IsPart (bytes : List ℕ) (n : ℕ) : Type 0 where
+pub record IsStringPart (bytes : List ℕ) (n : ℕ) : Type 0 where
   pub some : 0 < n
   pub reads : Reads plain bytes n
 

@@ -5,7 +5,7 @@ ghost use Rattle.json.specs.Ascii as ascii;
 ghost use Rattle.json.specs.Text.{after_backslash, after_high, after_u, is_high_surrogate, is_low_surrogate};
 ghost use Rattle.json.specs.Text.{short_escape};
 ghost use Rattle.json.specs.Word.{head};
-ghost use Rattle.json_lexemes.specs.Strings.{HasNoPart, IsLongestClosed, IsPart, IsStringFault, NeverCloses, Reads};
+ghost use Rattle.json_lexemes.specs.Strings.{HasNoPart, IsLongestClosed, IsStringPart, IsStringFault, NeverCloses, Reads};
 ghost use Rattle.json_lexemes.specs.Strings.{expected_for_escape, expected_in_string, first_unit, is_lone_backslash};
 
 use crate::expected::Expected;
@@ -107,7 +107,7 @@ fn escape(bytes: &[u8]) -> Option<usize>
 /// How many bytes the part of a string has that comes first: a byte that stands for itself, an escape, or a surrogate
 /// pair of two escapes. `None` at a quote, and where JSON does not allow what comes there.
 fn first_part(bytes: &[u8]) -> Option<usize>
-    ensures { MatchOption result (HasNoPart bytes.now) (IsPart bytes.now) }
+    ensures { MatchOption result (HasNoPart bytes.now) (IsStringPart bytes.now) }
 {
     let (first, rest) = bytes.split_first()?;
     match *first {
