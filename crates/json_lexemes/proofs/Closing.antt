@@ -1,17 +1,21 @@
 -- Where a quote closes a string, so that it is JSON.
 use Rattle.std.proofs.Common.{◌≡◌, ℕ, suc, ◌+◌, ◌-◌, ◌≤◌, Bool, true, false, List, [], ◌∷◌, ◌++◌, length, take, drop, get_or}
-use Rattle.std.proofs.Common.{Option, Some, None, option_and_then, is_some, refl, sym, ap, ap₂, ◌∙◌, arith, inl, inr, append-nil, append_assoc, take-add}
+use Rattle.std.proofs.Common.{Option, Some, None, option_and_then, is_some, refl, sym, ap, ap₂, ◌∙◌, arith, inl, inr}
+use Rattle.std.proofs.Common.{append-nil, append_assoc, take-add}
+use Rattle.std.proofs.lemmas.Bool.{true≢false}
 use Rattle.std.proofs.lemmas.List.{length-append, length-drop, take-append-drop}
 use Rattle.json.specs.Json.{if_last, value, max_depth}
 use Rattle.json.specs.Text.{content, plain, prepend}
 use Rattle.json.specs.Token.{Token, begin_object, end_object, begin_array, end_array, key, string, number, boolean, null, bad}
-use Rattle.json.specs.Lex.{Lexeme, token, comma, colon, Class, quote, backslash, operator, space, other, class, between, in_string, lex, lex_byte}
-use Rattle.json.specs.Lex.{string_token, Place, fresh, after_value, after_comma, if_allowed, place_token, punctuate, begins_colon}
+use Rattle.json.specs.Lex.{Lexeme, token, comma, colon, Class, quote, backslash, operator, space, other, class, between}
+use Rattle.json.specs.Lex.{in_string, lex, lex_byte, string_token, Place, fresh, after_value, after_comma, if_allowed, place_token}
+use Rattle.json.specs.Lex.{begins_colon, punctuate}
 use Rattle.json.proofs.Grammar.{value_is}
+use Rattle.json_lexemes.specs.Lexemes.{cut}
 use Rattle.json_lexemes.specs.Readings.{is_leaf}
 use Rattle.json_lexemes.specs.Strings.{HasNoPart, IsLongestClosed, Reads, is_closed_at}
 use Rattle.json_lexemes.proofs.Accepted.{string_leaf}
-use Rattle.json_lexemes.proofs.Meeting.{bad_leaf}
+use Rattle.json_lexemes.proofs.Meeting.{bad_leaf, leaf_content}
 use Rattle.json_lexemes.proofs.Strings.{Whole, whole_string}
 
 prepend-prepend : (a b : List ℕ) (o : Option (List ℕ)) → prepend a (prepend b o) ≡ prepend (a ++ b) o
@@ -156,6 +160,40 @@ module _ (front says : List ℕ) (reads : (r : List ℕ) → content plain (fron
 
   no_leaf : (xs : List ℕ) → content plain xs ≡ None → is_leaf (34 ∷ (front ++ xs)) ≡ false
   no_leaf xs none = bad_leaf _ _ (bad_first (front ++ xs) (reads xs ∙ ap (prepend says) none))
+
+-- ---- a string of JSON that a quote ends
+
+-- what comes last has the last byte
+last_of_all : (a : List ℕ) (x : ℕ) (xs f : List ℕ) (q : ℕ) → f ++ q ∷ [] ≡ a ++ (x ∷ xs) → (start : List ℕ) × (x ∷ xs ≡ start ++ q ∷ [])
+last_of_all [] x xs f q e = (f, sym e)
+last_of_all (y ∷ ys) x xs [] q e = absurd (omega (arith, ap length e, length-append ys (x ∷ xs)))
+last_of_all (y ∷ ys) x xs (z ∷ zs) q e = last_of_all ys x xs zs q (ap (drop 1) e)
+
+module _ (p : List ℕ) (leaf : is_leaf (34 ∷ (p ++ 34 ∷ [])) ≡ true) where
+  abbrev said : (k : List ℕ) × (content plain (p ++ 34 ∷ []) ≡ Some k)
+  said = leaf_content (p ++ 34 ∷ []) leaf
+
+  abbrev string_in : Whole said.0 (p ++ 34 ∷ [])
+  string_in = whole_string (p ++ 34 ∷ []) said.0 said.1
+
+  no_rest : (l : List ℕ) → string_in.rest ≡ l → string_in.rest ≡ []
+  no_rest [] e = e
+  no_rest (x ∷ xs) e =
+      let last = last_of_all string_in.front x xs p 34 (string_in.is ∙ ap (λ (l : List ℕ). string_in.front ++ l) e) in
+      let some = some_lexeme last.0 in
+      let lexed : lex between (34 ∷ (p ++ 34 ∷ [])) ≡ token (string said.0) ∷ some.0 ∷ some.1 =
+      ap (λ (l : List ℕ). lex between (34 ∷ l)) string_in.is ∙ string_in.lexed string_in.rest
+      ∙ ap (λ (l : List ℕ). token (string said.0) ∷ lex between l) (e ∙ last.1)
+      ∙ ap (λ (l : List Lexeme). token (string said.0) ∷ l) some.2 in
+      absurd (true≢false (sym leaf ∙ ap (λ (l : List Lexeme). is_read (punctuate fresh l)) lexed ∙ two_lexemes said.0 some.0 some.1))
+
+  -- it is cut off there
+  pub leaf_cut : (r : List ℕ) → cut between (34 ∷ (p ++ 34 ∷ r)) ≡ (34 ∷ (p ++ 34 ∷ [])) ∷ cut between r
+  leaf_cut r =
+      let same : string_in.front ≡ p ++ 34 ∷ [] =
+      sym (append-nil string_in.front) ∙ ap (λ (l : List ℕ). string_in.front ++ l) (sym (no_rest string_in.rest refl)) ∙ sym string_in.is in
+      ap (λ (l : List ℕ). cut between (34 ∷ l)) (sym (append_assoc p (34 ∷ []) r) ∙ ap (λ (l : List ℕ). l ++ r) (sym same))
+      ∙ string_in.cuts r ∙ ap (λ (l : List ℕ). (34 ∷ l) ∷ cut between r) same
 
 -- ---- all parts that come first
 

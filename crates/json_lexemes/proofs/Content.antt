@@ -1,6 +1,7 @@
 -- The content of a string, part by part.
-use Rattle.std.proofs.Common.{◌≡◌, ◌≢◌, ℕ, suc, ◌+◌, ◌-◌, ◌*◌, ◌<◌, ◌≤◌, ◌==◌, nat_lt, Bool, true, false, cond, ◌&&◌, List, [], ◌∷◌, ◌++◌, length, take, drop}
-use Rattle.std.proofs.Common.{get_or, Option, Some, None, option_and_then, is_some, refl, sym, ap, ◌∙◌, subst, arith, ◌⊎◌, inl, inr}
+use Rattle.std.proofs.Common.{◌≡◌, ◌≢◌, ℕ, suc, ◌+◌, ◌-◌, ◌*◌, ◌<◌, ◌≤◌, ◌==◌, nat_lt, Bool, true, false, cond, ◌&&◌, List, []}
+use Rattle.std.proofs.Common.{◌∷◌, ◌++◌, length, take, drop, get_or, Option, Some, None, option_and_then, is_some, refl, sym, ap, ◌∙◌}
+use Rattle.std.proofs.Common.{subst, arith, ◌⊎◌, inl, inr}
 use Rattle.std.specs.Prelude.{⊤}
 use Rattle.std.specs.Char.{digit_value, is_digit, encode_utf8}
 use Rattle.std.proofs.lemmas.List.{length-drop}
@@ -10,7 +11,8 @@ use Rattle.json.specs.Text.{is_high_surrogate, is_low_surrogate, surrogate_pair}
 use Rattle.std.proofs.lemmas.Bool.{cases_Bool, false≢true, le-ltb, lt-ltb, ltb-false, ltb-true, ne_eqb, true≢false}
 use Rattle.json.proofs.Found.{not_found}
 use Rattle.json_lexemes.specs.Laws.{StringsStopOnce}
-use Rattle.json_lexemes.specs.Strings.{HasNoPart, IsLongestClosed, IsStringPart, IsStringFault, NeverCloses, Reads, expected_in_string, first_unit, is_lone_backslash}
+use Rattle.json_lexemes.specs.Strings.{HasNoPart, IsLongestClosed, IsStringPart, IsStringFault, NeverCloses, Reads}
+use Rattle.json_lexemes.specs.Strings.{expected_in_string, first_unit, is_lone_backslash}
 use Rattle.json_lexemes.specs.declared.expected.Expected.{Expected}
 
 pub string_within : (s : List ℕ) (d : ℕ) (e : Expected) → IsStringFault s d e → d ≤ length s
@@ -102,6 +104,10 @@ module _ (f : ℕ → Option (List ℕ)) where
   some_then true (Some l) u e = some_low (is_low_surrogate l) l u e
   some_then false o u e = not_found u e
 
+-- what a pair stands for, and then the rest
+abbrev paired : ℕ → List ℕ → ℕ → Option (List ℕ)
+paired h xs l = prepend (encode_utf8 (surrogate_pair h l)) (content plain xs)
+
 no_half : (h : ℕ) (front rest : List ℕ) → second_unit (front ++ rest) ≡ None → content (after_high h) (front ++ 34 ∷ []) ≡ None
 unfolding content
 no_half h [] rest none = refl
@@ -112,11 +118,11 @@ no_half h (s ∷ u ∷ a ∷ b ∷ []) rest none = refl
 no_half h (s ∷ u ∷ a ∷ b ∷ c ∷ []) rest none = closed ((s == 92) && (u == 117)) (code_unit a b c 34) (unit_quote a b c)
   where
     closed : (t : Bool) (o : Option ℕ) → o ≡ None
-        → cond t (option_and_then (λ l. cond (is_low_surrogate l) (prepend (encode_utf8 (surrogate_pair h l)) (content plain [])) None) o) None ≡ None
+        → cond t (option_and_then (low_then (paired h [])) o) None ≡ None
     closed true o e = ap (option_and_then _) e
     closed false o e = refl
 no_half h (s ∷ u ∷ a ∷ b ∷ c ∷ d ∷ xs) rest none =
-    none_then (λ l. prepend (encode_utf8 (surrogate_pair h l)) (content plain (xs ++ 34 ∷ []))) ((s == 92) && (u == 117)) (code_unit a b c d) none
+    none_then (paired h (xs ++ 34 ∷ [])) ((s == 92) && (u == 117)) (code_unit a b c d) none
 
 pub never_half : (h : ℕ) (bytes : List ℕ) → second_unit bytes ≡ None → NeverCloses (after_high h) bytes
 never_half h bytes none front rest is = no_half h front rest (ap second_unit (sym is) ∙ none)
@@ -169,15 +175,17 @@ reads_half h v (s ∷ u ∷ a ∷ b ∷ c ∷ d ∷ xs) e =
     record {
       within = omega arith;
       says = encode_utf8 (surrogate_pair h v);
-      reads = λ r. some_then (λ l. prepend (encode_utf8 (surrogate_pair h l)) (content plain r)) ((s == 92) && (u == 117)) (code_unit a b c d) v e;
+      reads = λ r. some_then (paired h r) ((s == 92) && (u == 117)) (code_unit a b c d) v e;
     }
 
 -- ---- an escape by number
 
--- what follows its digits
+-- what follows its digits, by whether they are one half of a pair or the other
+abbrev unit_by : Bool → Bool → List ℕ → ℕ → Option (List ℕ)
+unit_by high low xs u = cond high (content (after_high u) xs) (cond low None (prepend (encode_utf8 u) (content plain xs)))
+
 abbrev unit_then : List ℕ → ℕ → Option (List ℕ)
-unit_then xs u =
-    cond (is_high_surrogate u) (content (after_high u) xs) (cond (is_low_surrogate u) None (prepend (encode_utf8 u) (content plain xs)))
+unit_then xs u = unit_by (is_high_surrogate u) (is_low_surrogate u) xs u
 
 no_digits : (front rest : List ℕ) → first_unit (front ++ rest) ≡ None → content after_u (front ++ 34 ∷ []) ≡ None
 unfolding content
@@ -204,14 +212,14 @@ pub never_low : (u : ℕ) (bytes : List ℕ) → first_unit bytes ≡ Some u →
     → NeverCloses after_u bytes
 never_low u bytes some high low front rest is =
     no_more u front rest (ap first_unit (sym is) ∙ some)
-    (λ xs e. λ i. cond (high i) (content (after_high u) (xs ++ 34 ∷ [])) (cond (low i) None (prepend (encode_utf8 u) (content plain (xs ++ 34 ∷ [])))))
+    (λ xs e. λ i. unit_by (high i) (low i) (xs ++ 34 ∷ []) u)
 
-pub never_high : (u : ℕ) (bytes : List ℕ) → first_unit bytes ≡ Some u → is_high_surrogate u ≡ true → NeverCloses (after_high u) (drop 4 bytes)
-    → NeverCloses after_u bytes
+pub never_high : (u : ℕ) (bytes : List ℕ) → first_unit bytes ≡ Some u → is_high_surrogate u ≡ true
+    → NeverCloses (after_high u) (drop 4 bytes) → NeverCloses after_u bytes
 never_high u bytes some high never front rest is =
     no_more u front rest (ap first_unit (sym is) ∙ some)
     (λ xs e.
-    ap (λ t. cond t (content (after_high u) (xs ++ 34 ∷ [])) (cond (is_low_surrogate u) None (prepend (encode_utf8 u) (content plain (xs ++ 34 ∷ []))))) high
+    ap (λ t. unit_by t (is_low_surrogate u) (xs ++ 34 ∷ []) u) high
     ∙ never xs rest (ap (drop 4) is ∙ e))
 
 pub reads_unit : (u : ℕ) (bytes : List ℕ) → first_unit bytes ≡ Some u → is_high_surrogate u ≡ false → is_low_surrogate u ≡ false
@@ -226,7 +234,7 @@ reads_unit u (a ∷ b ∷ c ∷ d ∷ xs) some high low =
       within = omega arith;
       says = encode_utf8 u;
       reads = λ r. ap (option_and_then (unit_then r)) some
-          ∙ (λ i. cond (high i) (content (after_high u) r) (cond (low i) None (prepend (encode_utf8 u) (content plain r))));
+          ∙ (λ i. unit_by (high i) (low i) r u);
     }
 
 pub reads_pair : (u k : ℕ) (bytes : List ℕ) → first_unit bytes ≡ Some u → is_high_surrogate u ≡ true → Reads (after_high u) (drop 4 bytes) k
@@ -244,7 +252,7 @@ reads_pair u k (a ∷ b ∷ c ∷ d ∷ xs) some high half =
       reads = λ r.
           ap (λ n. content after_u (take n (a ∷ b ∷ c ∷ d ∷ xs) ++ r)) longer
           ∙ ap (option_and_then (unit_then (take k xs ++ r))) some
-          ∙ ap (λ t. cond t (content (after_high u) (take k xs ++ r)) (cond (is_low_surrogate u) None (prepend (encode_utf8 u) (content plain (take k xs ++ r))))) high
+          ∙ ap (λ t. unit_by t (is_low_surrogate u) (take k xs ++ r) u) high
           ∙ half.reads r;
     }
 
@@ -270,7 +278,8 @@ module _ (x : ℕ) (xs bytes : List ℕ) (split : bytes ≡ x ∷ xs) where
   never_number u never front rest is = no_escape front rest (subst IsNoEscape (sym split ∙ is) (inl (u, never)))
 
   pub never_short : x ≢ 117 → is_some (short_escape x) ≡ false → NeverCloses after_backslash bytes
-  never_short u none front rest is = no_escape front rest (subst IsNoEscape (sym split ∙ is) (inr (ne_eqb x 117 u, is_none (short_escape x) none)))
+  never_short u none front rest is =
+      no_escape front rest (subst IsNoEscape (sym split ∙ is) (inr (ne_eqb x 117 u, is_none (short_escape x) none)))
     where
       is_none : (o : Option ℕ) → is_some o ≡ false → o ≡ None
       is_none None e = refl

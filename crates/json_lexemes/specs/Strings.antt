@@ -1,6 +1,6 @@
 -- Where a string stops being one of JSON, and what was expected there.
-use Rattle.std.specs.Prelude.{◌≡◌, ◌⊎◌, ℕ, ◌<◌, ◌≤◌, ◌==◌, nat_lt, Bool, true, false, cond, ◌&&◌, ◌||◌, List, [], ◌∷◌, ◌++◌, length, take, drop}
-use Rattle.std.specs.Prelude.{Option, None, is_some}
+use Rattle.std.specs.Prelude.{◌≡◌, ◌⊎◌, ℕ, ◌<◌, ◌≤◌, ◌==◌, nat_lt, Bool, true, false, cond, ◌&&◌, ◌||◌, List, []}
+use Rattle.std.specs.Prelude.{◌∷◌, ◌++◌, length, take, drop, Option, None, is_some}
 use Rattle.json.specs.Ascii as ascii
 use Rattle.json.specs.Text.{Within, plain, code_unit, content, prepend}
 use Rattle.json.specs.Word.{head}

@@ -2,7 +2,8 @@
 ghost use Rattle.std.specs.Prelude.{◌≡◌, ℕ, ◌+◌, ◌≤◌, ◌∷◌, length, is_some, MatchOption};
 ghost use Rattle.std.specs.Char.{digit_value};
 ghost use Rattle.json.specs.Ascii as ascii;
-ghost use Rattle.json.specs.Text.{after_backslash, after_high, after_u, is_high_surrogate, is_low_surrogate, short_escape};
+ghost use Rattle.json.specs.Text.{after_backslash, after_high, after_u, is_high_surrogate, is_low_surrogate};
+ghost use Rattle.json.specs.Text.{short_escape};
 ghost use Rattle.json.specs.Word.{head};
 ghost use Rattle.json_lexemes.specs.Strings.{HasNoPart, IsLongestClosed, IsStringPart, IsStringFault, NeverCloses, Reads};
 ghost use Rattle.json_lexemes.specs.Strings.{expected_for_escape, expected_in_string, first_unit, is_lone_backslash};
@@ -57,7 +58,8 @@ fn is_low(unit: u32) -> bool
 
 /// How many bytes the escape has that is the second half of a surrogate pair. `None` where these bytes begin with none.
 fn second_half(bytes: &[u8]) -> Option<usize>
-    ensures { (high : ℕ) → MatchOption result (NeverCloses (after_high high) bytes.now) (Reads (after_high high) bytes.now) }
+    ensures { (high : ℕ)
+        → MatchOption result (NeverCloses (after_high high) bytes.now) (Reads (after_high high) bytes.now) }
 {
     let (first, rest) = bytes.split_first()?;
     let (second, digits) = rest.split_first()?;
@@ -69,7 +71,8 @@ fn second_half(bytes: &[u8]) -> Option<usize>
     }
 }
 
-/// How many bytes an escape by number has after its `\u`, or a surrogate pair. `None` where JSON does not allow what comes there.
+/// How many bytes an escape by number has after its `\u`, or a surrogate pair. `None` where JSON does not allow what
+/// comes there.
 fn number(bytes: &[u8]) -> Option<usize>
     ensures { MatchOption result (NeverCloses after_u bytes.now) (Reads after_u bytes.now) }
 {
@@ -101,8 +104,8 @@ fn escape(bytes: &[u8]) -> Option<usize>
     if is_short(*first) { Some(1) } else { None }
 }
 
-/// How many bytes the part of a string has that comes first: a byte that stands for itself, an escape, or a surrogate pair of two
-/// escapes. `None` at a quote, and where JSON does not allow what comes there.
+/// How many bytes the part of a string has that comes first: a byte that stands for itself, an escape, or a surrogate
+/// pair of two escapes. `None` at a quote, and where JSON does not allow what comes there.
 fn first_part(bytes: &[u8]) -> Option<usize>
     ensures { MatchOption result (HasNoPart bytes.now) (IsStringPart bytes.now) }
 {
@@ -184,8 +187,8 @@ fn escape_len(bytes: &[u8]) -> usize {
     len
 }
 
-/// How many bytes a message shows of what JSON does not allow: an escape with its digits or its character, or one byte. None at
-/// the end, also after a backslash.
+/// How many bytes a message shows of what JSON does not allow: an escape with its digits or its character, or one byte.
+/// None at the end, also after a backslash.
 fn refused_len(bytes: &[u8]) -> usize {
     match (bytes.first(), bytes.get(1)) {
         (None, _) | (Some(b'\\'), None) => 0,
@@ -213,8 +216,8 @@ pub(crate) struct RefusedPart<'s> {
     pub text: &'s str,
 }
 
-/// The first part of a string, spelled with its quotes, that JSON does not allow: an escape, half of a surrogate pair, the end of a
-/// line, or another control character. Where it has none, its end.
+/// The first part of a string, spelled with its quotes, that JSON does not allow: an escape, half of a surrogate pair,
+/// the end of a line, or another control character. Where it has none, its end.
 pub(crate) fn refused_part(string: &str) -> RefusedPart<'_>
     ensures { head string.now ≡ ascii.quote → IsStringFault string.now result.offset result.expected }
 {

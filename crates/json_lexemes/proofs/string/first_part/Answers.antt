@@ -15,8 +15,8 @@ returns-in_ok-escape-in-92 c =
 
 pub returns-in_default : goal.returns-in_default
 returns-in_default c =
-    part_byte c.in_ok-first.first.now c.in_ok-first.rest.now c.args.bytes.now c.in_ok-first.ensures.cases.0 (λ e. omega arith) (λ e. omega arith)
-    (omega arith)
+    part_byte c.in_ok-first.first.now c.in_ok-first.rest.now c.args.bytes.now c.in_ok-first.ensures.cases.0 (λ e. omega arith)
+    (λ e. omega arith) (omega arith)
 
 pub returns-in-0-to-31 : goal.returns-in-0-to-31
 returns-in-0-to-31 c =

@@ -9,7 +9,8 @@ pub returns-in_err-second_half : goal.returns-in_err-second_half
 returns-in_err-second_half c =
     let u = c.in_ok-unit.unit in
     rw c.from_residual-in_err-second_half.ensures
-    (never_high u c.args.bytes.now (sym c.in_ok-unit.ensures) (sym c.is_high.ensures ∙ c.if-is_high.true) (rw take_rest at (c.in_err-second_half.ensures u)))
+    (never_high u c.args.bytes.now (sym c.in_ok-unit.ensures) (sym c.is_high.ensures ∙ c.if-is_high.true)
+    (rw take_rest at (c.in_err-second_half.ensures u)))
 
 pub overflow_add-result : goal.overflow_add-result
 overflow_add-result c = omega (arith, (c.in_ok-second_half.ensures 0).within)

@@ -9,14 +9,14 @@ returns-in_err-first c = λ high.
 pub returns-in_err-second : goal.returns-in_err-second
 returns-in_err-second c = λ high.
     rw c.from_residual-in_err-second.ensures
-    (never_half high c.args.bytes.now (one_alone c.in_ok-first.first.now c.in_ok-first.rest.now c.args.bytes.now c.in_ok-first.ensures.cases.0
-    c.in_err-second.ensures.cases))
+    (never_half high c.args.bytes.now (one_alone c.in_ok-first.first.now c.in_ok-first.rest.now c.args.bytes.now
+    c.in_ok-first.ensures.cases.0 c.in_err-second.ensures.cases))
 
 pub returns-in_err-unit : goal.returns-in_err-unit
 returns-in_err-unit c = λ high.
     rw c.from_residual-in_err-unit.ensures
-    (never_half high c.args.bytes.now (none_of c.in_ok-first.first.now c.in_ok-second.second.now c.in_ok-second.digits.now c.in_ok-first.rest.now
-    c.args.bytes.now c.in_ok-first.ensures.cases.0 c.in_ok-second.ensures.cases.0 (sym c.in_err-unit.ensures)))
+    (never_half high c.args.bytes.now (none_of c.in_ok-first.first.now c.in_ok-second.second.now c.in_ok-second.digits.now
+    c.in_ok-first.rest.now c.args.bytes.now c.in_ok-first.ensures.cases.0 c.in_ok-second.ensures.cases.0 (sym c.in_err-unit.ensures)))
 
 pub returns-then-first-second : goal.returns-then-first-second
 returns-then-first-second c = λ high.
