@@ -6,7 +6,7 @@ use Rattle.prettyless_area.specs.Overlay.{overlay}
 use Rattle.prettyless_exports.specs.Answers.{Holds, IsUntouched}
 use Rattle.toml_formatter.specs.Formats.{IsFormattedToml}
 use Rattle.toml_grammar.specs.Grammar.{is_toml}
-use Rattle.toml_grammar.specs.Refusals.{NamesFault, nesting}
+use Rattle.toml_grammar.specs.Refusals.{NamesBracket, NamesFault, nesting}
 use Rattle.toml_grammar.specs.declared.refusal.Refusal.{Refusal}
 
 -- So far into the text it is TOML, or not too deep: there something else was expected, whose name is in the area.
@@ -21,8 +21,9 @@ pub record IsTomlFault (text old new : List ℕ) (written line column : ℕ) : T
   pub encoding : ¬ IsUtf8 text → refusal.expected.now ≡ codes "UTF-8"
   -- where it is, and not TOML, this is the fault of its grammar
   pub fault : IsUtf8 text → is_toml text ≡ false → NamesFault text refusal
-  -- where it is TOML, less depth was expected
+  -- where it is TOML, less depth was expected, and this is its first bracket that is too deep
   pub depth : IsUtf8 text → is_toml text ≡ true → refusal.expected.now ≡ nesting
+  pub bracket : IsUtf8 text → is_toml text ≡ true → NamesBracket text refusal
 
 -- The answer to a text, for an area that held `old` and holds `new`.
 pub record AnswersToml (limit : ℕ) (text old new : List ℕ) (written line column status : ℕ) : Type 0 where

@@ -1,7 +1,7 @@
 //! The layout of a TOML text, into an area of bytes.
 ghost use Rattle.prettyless_exports.specs.Answers.{limit_of};
 ghost use Rattle.toml_exports.specs.Answers.{AnswersToml};
-ghost use Rattle.toml_exports.specs.Statuses.{RefusesToml, TomlStatusHolds};
+ghost use Rattle.toml_exports.specs.Statuses.{IsTooDeepIfToml, RefusesToml, TomlStatusHolds};
 
 use crate::status::Status;
 use prettyless_exports::layout::limit_from;
@@ -59,6 +59,7 @@ fn refused(
     line: &mut usize,
     column: &mut usize,
 ) -> Status
+    requires { IsTooDeepIfToml text.now }
     ensures { RefusesToml text.now out.old out.new written.new line.new column.new result }
 {
     match refusal_of(alloc, text) {

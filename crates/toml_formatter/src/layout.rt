@@ -1,10 +1,11 @@
 //! The layout of a text.
-ghost use Rattle.std.specs.Prelude.{◌≡◌, IfOk, IfErr};
+ghost use Rattle.std.specs.Prelude.{◌≡◌, false, IfOk, IfErr, OnOk};
 ghost use Rattle.std.specs.String.{string_bytes};
 ghost use Rattle.prettyless.specs.Content.{HasContent};
 ghost use Rattle.toml_lexemes.specs.Lexemes.{toml_lexemes_of};
 ghost use Rattle.toml_statements.specs.Statements.{statements};
-ghost use Rattle.toml_formatter.specs.Errors.{IsRefusal};
+ghost use Rattle.toml_grammar.specs.Nesting.{is_too_deep};
+ghost use Rattle.toml_formatter.specs.Errors.{IsFormatMemory, IsRefusalOf};
 ghost use Rattle.toml_formatter.specs.Formats.{IsFormattedToml, IsRefusedToml};
 ghost use Rattle.toml_statements.specs.Sound.{AreSound};
 
@@ -47,7 +48,7 @@ fn rendered<'a, P: DocPtr<'a>>(
     options: RenderOptions,
 ) -> Result<String, FormatError>
     ensures ok { IfOk result (λ layout. HasContent (P.tree document.now) (string_bytes layout)) }
-    ensures err { IfErr result IsRefusal }
+    ensures err { IfErr result IsFormatMemory }
 {
     let mut layout = String::new(alloc);
     let doc = document.doc();
@@ -70,7 +71,8 @@ fn laid<'a>(
 ) -> Result<String, FormatError>
     requires { AreSound (toml_lexemes_of text.now) }
     ensures ok { IfOk result (λ layout. statements (string_bytes layout) ≡ statements text.now) }
-    ensures err { IfErr result IsRefusal }
+    ensures shallow { OnOk result (is_too_deep text.now ≡ false) }
+    ensures err { IfErr result (IsRefusalOf text.now) }
 {
     let document = document(arena, text, style)?;
     rendered(&document, alloc, options(text, style))
@@ -80,7 +82,8 @@ fn laid<'a>(
 fn laid_out(alloc: Global, text: &str, style: Style) -> Result<String, FormatError>
     requires { AreSound (toml_lexemes_of text.now) }
     ensures ok { IfOk result (λ layout. statements (string_bytes layout) ≡ statements text.now) }
-    ensures err { IfErr result IsRefusal }
+    ensures shallow { OnOk result (is_too_deep text.now ≡ false) }
+    ensures err { IfErr result (IsRefusalOf text.now) }
 {
     let bump = Bump::new(alloc);
     let arena = Arena::new(alloc, &bump);
@@ -93,7 +96,7 @@ fn laid_out(alloc: Global, text: &str, style: Style) -> Result<String, FormatErr
 /// with a line end, unless it is empty.
 ///
 /// `NotToml` only where the text is no TOML, and `TooDeep` only where it is TOML and more than 128 brackets are in one another.
-/// `Memory` where memory is refused, whatever the text is. No clause speaks of the layout's line ends, nor of the 128.
+/// `Memory` where memory is refused, whatever the text is. No clause speaks of the layout's line ends.
 ///
 /// ```
 /// formatted(alloc, "a=1", Style::default())? // "a = 1\n"
