@@ -7,7 +7,7 @@ use Rattle.toml_lexemes.specs.View.{toml_text_of, HasTomlKind}
 use Rattle.toml_lexemes.specs.declared.lexeme.Lexeme.{Lexeme}
 use Rattle.toml_lexemes.specs.declared.lexeme.Lexeme.TheVariants as lexeme
 use Rattle.toml_grammar.specs.Sorts.{sort_of}
-use Rattle.toml_grammar.specs.Nesting.{depth_after, max_depth, nest_too_deep}
+use Rattle.toml_grammar.specs.Nesting.{depth_after, max_brackets, nest_too_deep}
 use Rattle.toml_grammar.proofs.Depths.{depth_step, remark_depth, string_depth, word_depth}
 use Rattle.toml_formatter.specs.Depths.{TakesWithin}
 use Rattle.toml_formatter.specs.Errors.{IsFormatMemory, IsRefusalWithin, IsRefusalOf}
@@ -80,13 +80,13 @@ part_within x named part e depth ss = plain_within x named e (no_closing x part)
     no_closing (lexeme.Word s) part = refl
 
 -- outside of brackets a closing one closes none
-pub closing_within : (x : Lexeme) → is_closing x ≡ true → (ss : List (List ℕ)) → TakesWithin max_depth (toml_text_of x ∷ ss) ss
+pub closing_within : (x : Lexeme) → is_closing x ≡ true → (ss : List (List ℕ)) → TakesWithin max_brackets (toml_text_of x ∷ ss) ss
 closing_within x e ss n h =
     let same : n - 1 ≡ n = omega (arith, h) in
     depth_step (toml_text_of x) ss n n (closing_depth x e n ∙ same) (omega (arith, h))
 
 -- in brackets so many are open more, where one less may be
-opened : (x : Lexeme) → is_opening x ≡ true → (depth : ℕ) → 1 ≤ depth → (ss : List (List ℕ)) (n : ℕ) → n + depth ≡ max_depth
+opened : (x : Lexeme) → is_opening x ≡ true → (depth : ℕ) → 1 ≤ depth → (ss : List (List ℕ)) (n : ℕ) → n + depth ≡ max_brackets
     → nest_too_deep n (toml_text_of x ∷ ss) ≡ nest_too_deep (n + 1) ss
 opened x e depth some ss n h =
     depth_step (toml_text_of x) ss n (n + 1) (opening_depth x e n) (omega (arith, h, some))
@@ -96,7 +96,7 @@ pub list_within : (x : Lexeme) → is_opening x ≡ true → (y : Lexeme) → is
     → (old left : List (List ℕ)) → TakesWithin (depth - 1) old (toml_text_of y ∷ left) → TakesWithin depth (toml_text_of x ∷ old) left
 list_within x o y c depth some old left inside n h =
     let back : n + 1 - 1 ≡ n = omega arith in
-    let deeper : n + 1 + (depth - 1) ≡ max_depth = omega (arith, h, some) in
+    let deeper : n + 1 + (depth - 1) ≡ max_brackets = omega (arith, h, some) in
     opened x o depth some old n h ∙ inside (n + 1) deeper
     ∙ depth_step (toml_text_of y) left (n + 1) n (closing_depth y c (n + 1) ∙ back) (omega (arith, h))
 
@@ -116,12 +116,12 @@ closed_within x o depth some old s left is (inr (y, rest, e, c)) inside = λ n h
 pub ended_within : (x : Lexeme) → is_opening x ≡ true → (depth : ℕ) → 1 ≤ depth → (old : List (List ℕ)) {ss left : List (List ℕ)} → ss ≡ []
     → left ≡ [] → TakesWithin (depth - 1) old ss → TakesWithin depth (toml_text_of x ∷ old) left
 ended_within x o depth some old is none inside = λ n h.
-    let deeper : n + 1 + (depth - 1) ≡ max_depth = omega (arith, h, some) in
+    let deeper : n + 1 + (depth - 1) ≡ max_brackets = omega (arith, h, some) in
     opened x o depth some old n h ∙ inside (n + 1) deeper ∙ ap (λ ss. nest_too_deep (n + 1) ss) is
     ∙ ap (λ ss. nest_too_deep n ss) (sym none)
 
 -- a line end outside of brackets
-pub line_end_within : (ss : List (List ℕ)) → TakesWithin max_depth ((line_feed ∷ []) ∷ ss) ss
+pub line_end_within : (ss : List (List ℕ)) → TakesWithin max_brackets ((line_feed ∷ []) ∷ ss) ss
 line_end_within ss n h = depth_step (line_feed ∷ []) ss n n refl (omega (arith, h))
 
 -- lexemes, and then more
@@ -157,14 +157,14 @@ memory_of text (Memory x) h = tt
 pub bracket_refused : (x : Lexeme) → is_opening x ≡ true → (ss : List (List ℕ)) → IsRefusalWithin 0 (toml_text_of x ∷ ss) TooDeep
 bracket_refused x o ss n h =
     let full : n ≡ 128 = omega (arith, h) in
-    ap (λ k. ltb max_depth k || nest_too_deep k ss) (opening_depth x o n ∙ ap (λ k. k + 1) full)
+    ap (λ k. ltb max_brackets k || nest_too_deep k ss) (opening_depth x o n ∙ ap (λ k. k + 1) full)
 
 -- what is in brackets is refused
 pub list_refused : (x : Lexeme) → is_opening x ≡ true → (depth : ℕ) → 1 ≤ depth → (old : List (List ℕ)) (e : FormatError)
     → IsRefusalWithin (depth - 1) old e → IsRefusalWithin depth (toml_text_of x ∷ old) e
 list_refused x o depth some old NotToml h = absurd h
 list_refused x o depth some old TooDeep h = λ n e.
-    let deeper : n + 1 + (depth - 1) ≡ max_depth = omega (arith, e, some) in
+    let deeper : n + 1 + (depth - 1) ≡ max_brackets = omega (arith, e, some) in
     opened x o depth some old n e ∙ h (n + 1) deeper
 list_refused x o depth some old (Memory y) h = tt
 
@@ -176,8 +176,8 @@ refused_after depth old TooDeep f is h = λ n e. f n e ∙ ap (λ ss. nest_too_d
 refused_after depth old (Memory x) f is h = tt
 
 -- a text of which the lexemes that are left are refused
-pub text_refused : (text : List ℕ) {between next : List (List ℕ)} (e : FormatError) → TakesWithin max_depth (toml_lexemes_of text) between
-    → between ≡ next → IsRefusalWithin max_depth next e → IsRefusalOf text e
+pub text_refused : (text : List ℕ) {between next : List (List ℕ)} (e : FormatError) → TakesWithin max_brackets (toml_lexemes_of text) between
+    → between ≡ next → IsRefusalWithin max_brackets next e → IsRefusalOf text e
 text_refused text NotToml f is h = absurd h
 text_refused text TooDeep f is h = f 0 refl ∙ ap (λ ss. nest_too_deep 0 ss) is ∙ h 0 refl
 text_refused text (Memory x) f is h = tt

@@ -7,16 +7,16 @@ use Rattle.toml_lexemes.specs.Lexemes.{toml_lexemes_of}
 use Rattle.toml_lexemes.specs.SpacedLexemes.{SpacedToml, blanks, toml_spaced_as}
 use Rattle.toml_grammar.specs.Sorts as sort
 use Rattle.toml_grammar.specs.Sorts.{sort_by, sort_of}
-use Rattle.toml_grammar.specs.Nesting.{max_depth, depth_after, nest_too_deep, is_too_deep, spellings}
+use Rattle.toml_grammar.specs.Nesting.{max_brackets, depth_after, nest_too_deep, is_too_deep, spellings}
 use Rattle.toml_grammar.proofs.Cuts.{IsCut, cut_after}
 
 -- ---- one lexeme
 
 -- a lexeme after which so many brackets are open, which is not too deep
-pub depth_step : (s : List ℕ) (ss : List (List ℕ)) (n m : ℕ) → depth_after (sort_of s) n ≡ m → m ≤ max_depth
+pub depth_step : (s : List ℕ) (ss : List (List ℕ)) (n m : ℕ) → depth_after (sort_of s) n ≡ m → m ≤ max_brackets
     → nest_too_deep n (s ∷ ss) ≡ nest_too_deep m ss
 depth_step s ss n m e h =
-    ap (λ k. ltb max_depth k || nest_too_deep k ss) e ∙ ap (λ b. b || nest_too_deep m ss) (le-ltb max_depth m h)
+    ap (λ k. ltb max_brackets k || nest_too_deep k ss) e ∙ ap (λ b. b || nest_too_deep m ss) (le-ltb max_brackets m h)
 
 pub remark_depth : (s : List ℕ) → head s ≡ hash → (n : ℕ) → depth_after (sort_of s) n ≡ n
 remark_depth [] e n = refl
@@ -52,7 +52,7 @@ word_depth (x ∷ xs) e n =
 pub record IsShallow (text : List ℕ) (others : List SpacedToml) (depth left : ℕ) : Type 0 where
   pub before : List SpacedToml
   pub at : IsCut text before others left
-  pub shallow : depth ≤ max_depth
+  pub shallow : depth ≤ max_brackets
   pub same : (ss : List (List ℕ)) → nest_too_deep 0 (spellings before ++ ss) ≡ nest_too_deep depth ss
 
 spellings-append : (ps qs : List SpacedToml) → spellings (ps ++ qs) ≡ spellings ps ++ spellings qs
@@ -69,11 +69,11 @@ or_same true p q h = refl
 or_same false p q h = h refl
 
 -- the end opens no bracket
-end_opens_none : (ss : List (List ℕ)) (n : ℕ) → n ≤ max_depth → nest_too_deep n (ss ++ [] ∷ []) ≡ nest_too_deep n ss
+end_opens_none : (ss : List (List ℕ)) (n : ℕ) → n ≤ max_brackets → nest_too_deep n (ss ++ [] ∷ []) ≡ nest_too_deep n ss
 end_opens_none [] n h = depth_step [] [] n n refl h
 end_opens_none (s ∷ ss) n h =
     let d = depth_after (sort_of s) n in
-    or_same (ltb max_depth d) _ _ (λ e. end_opens_none ss d (ltb-false max_depth d e))
+    or_same (ltb max_brackets d) _ _ (λ e. end_opens_none ss d (ltb-false max_brackets d e))
 
 module _ (text : List ℕ) (items : List SpacedToml) (depth left : ℕ) (h : IsShallow text items depth left) where
   -- so far brackets are not too deep
@@ -94,7 +94,7 @@ module _ (text : List ℕ) (items : List SpacedToml) (depth left : ℕ) (h : IsS
         ∙ ap (λ l. nest_too_deep 0 l) (append_assoc (spellings h.before) (p.lexeme ∷ []) ss) ∙ h.same (p.lexeme ∷ ss)
 
     -- one lexeme more
-    pub still : depth_after (sort_of p.lexeme) depth ≤ max_depth
+    pub still : depth_after (sort_of p.lexeme) depth ≤ max_brackets
         → IsShallow text others (depth_after (sort_of p.lexeme) depth) (left - length p.gap - length p.lexeme)
     still shallow =
         record {
@@ -105,7 +105,7 @@ module _ (text : List ℕ) (items : List SpacedToml) (depth left : ℕ) (h : IsS
         }
 
     -- a lexeme that is too deep
-    pub here : max_depth < depth_after (sort_of p.lexeme) depth → nest_too_deep 0 (spellings (h.before ++ p ∷ [])) ≡ true
+    pub here : max_brackets < depth_after (sort_of p.lexeme) depth → nest_too_deep 0 (spellings (h.before ++ p ∷ [])) ≡ true
     here deep =
         ap (λ ss. nest_too_deep 0 ss) (sym (append-nil (spellings (h.before ++ p ∷ [])))) ∙ with_next []
-        ∙ ap (λ b. b || false) (lt-ltb max_depth _ deep)
+        ∙ ap (λ b. b || false) (lt-ltb max_brackets _ deep)

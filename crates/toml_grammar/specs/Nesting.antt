@@ -7,8 +7,8 @@ use Rattle.toml_lexemes.specs.declared.lexeme.Lexeme.{Lexeme}
 use Rattle.toml_grammar.specs.Sorts.{Sort, open_array, close_array, open_table, close_table, sort_of}
 
 -- how many brackets may be in one another where a text is laid out
-abbrev pub max_depth : ℕ
-max_depth = 128
+abbrev pub max_brackets : ℕ
+max_brackets = 128
 
 -- how many brackets are open after a lexeme of this sort, where n are open before it
 abbrev pub depth_after : Sort → ℕ → ℕ
@@ -18,13 +18,13 @@ depth_after open_table n = n + 1
 depth_after close_table n = n - 1
 depth_after s n = n
 
--- whether more brackets than `max_depth` are open after one of these lexemes, where n are open before them
+-- whether more brackets than `max_brackets` are open after one of these lexemes, where n are open before them
 abbrev pub nest_too_deep : ℕ → List (List ℕ) → Bool
 nest_too_deep n [] = false
 nest_too_deep n (s ∷ ss) =
-    nat_lt max_depth (depth_after (sort_of s) n) || nest_too_deep (depth_after (sort_of s) n) ss
+    nat_lt max_brackets (depth_after (sort_of s) n) || nest_too_deep (depth_after (sort_of s) n) ss
 
--- whether more brackets than `max_depth` are in one another in a text
+-- whether more brackets than `max_brackets` are in one another in a text
 abbrev pub is_too_deep : List ℕ → Bool
 is_too_deep text = nest_too_deep 0 (toml_lexemes_of text)
 
@@ -32,7 +32,7 @@ is_too_deep text = nest_too_deep 0 (toml_lexemes_of text)
 abbrev pub spellings : List SpacedToml → List (List ℕ)
 spellings ps = map (λ p. p.lexeme) ps
 
--- The first bracket of a text that is too deep: before it no more brackets than `max_depth` are in one another, and with it
+-- The first bracket of a text that is too deep: before it no more brackets than `max_brackets` are in one another, and with it
 -- more are. It has this offset, which is in bytes.
 pub record IsTooDeepAt (text : List ℕ) (offset : ℕ) (bracket : Option Lexeme) : Type 0 where
   pub before : List SpacedToml

@@ -1,6 +1,6 @@
 //! Where brackets are too deep in one another.
 ghost use Rattle.std.specs.Prelude.{◌≡◌, ◌≤◌, length, true};
-ghost use Rattle.toml_grammar.specs.Nesting.{depth_after, max_depth, is_too_deep, IsTooDeepAt};
+ghost use Rattle.toml_grammar.specs.Nesting.{depth_after, max_brackets, is_too_deep, IsTooDeepAt};
 ghost use Rattle.toml_grammar.specs.Sorts.{sort_of};
 ghost use Rattle.toml_lexemes.specs.SpacedLexer.{text_if, IsNamedIf};
 
@@ -12,7 +12,7 @@ pub const MAX_DEPTH: usize = 128;
 /// How many brackets are open after the lexeme, or after the end of the text.
 fn depth_after(depth: usize, lexeme: Option<Lexeme<'_>>) -> usize
     requires named { IsNamedIf lexeme }
-    requires shallow { depth ≤ max_depth }
+    requires shallow { depth ≤ max_brackets }
     ensures { result ≡ depth_after (sort_of (text_if lexeme.entry)) depth }
 {
     match lexeme {

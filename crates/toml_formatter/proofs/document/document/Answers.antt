@@ -5,7 +5,7 @@ use Rattle.toml_lexemes.specs.View.{toml_text_of}
 use Rattle.toml_lexemes.specs.declared.lexeme.Lexeme.{Lexeme}
 use Rattle.toml_formatter.specs.Lines.{IsDocument}
 use Rattle.toml_lexemes.specs.Lexemes.{toml_lexemes_of}
-use Rattle.toml_grammar.specs.Nesting.{max_depth, nest_too_deep}
+use Rattle.toml_grammar.specs.Nesting.{max_brackets, nest_too_deep}
 use Rattle.toml_formatter.proofs.DepthLemmas.{line_end_within, memory_of, next_within, of_memory, passed_on, text_refused}
 use Rattle.toml_formatter.proofs.Documents.{document_blank, document_none, document_whole}
 use Rattle.toml_formatter.proofs.document.document.Goals as goal
@@ -28,7 +28,7 @@ loop-first-preserved-in-LineEnd c =
       before.0 ++ (line_feed ∷ []) ∷ [],
       before.1 ∙ ap (λ (ss : List (List ℕ)). before.0 ++ ss) e ∙ sym (append_assoc before.0 ((line_feed ∷ []) ∷ []) left),
       document_blank left before.0 d (subst (λ (ss : List (List ℕ)). IsDocument ss before.0 d) e before.2),
-      next_within max_depth (toml_lexemes_of c.args.text.now) left before.3 e (line_end_within left),
+      next_within max_brackets (toml_lexemes_of c.args.text.now) left before.3 e (line_end_within left),
     )
 
 pub loop-first-preserved : goal.loop-first-preserved
@@ -42,7 +42,7 @@ loop-first-preserved c =
       before.0 ++ made.0,
       before.1 ∙ ap (λ (ss : List (List ℕ)). before.0 ++ ss) (e ∙ made.1) ∙ sym (append_assoc before.0 made.0 left),
       made.2,
-      next_within max_depth (toml_lexemes_of c.args.text.now) left before.3 e c.in_ok-next.ensures.within,
+      next_within max_brackets (toml_lexemes_of c.args.text.now) left before.3 e c.in_ok-next.ensures.within,
     )
 
 pub returns-clause-made : goal.returns-clause-made

@@ -4,7 +4,7 @@ use Rattle.toml_lexemes.specs.Bytes.{comma}
 use Rattle.toml_lexemes.specs.View.{toml_text_of, HasTomlKind}
 use Rattle.toml_lexemes.specs.declared.lexeme.Lexeme.{Lexeme}
 use Rattle.toml_lexemes.specs.declared.lexeme.Lexeme.TheVariants as lexeme
-use Rattle.toml_grammar.specs.Nesting.{max_depth}
+use Rattle.toml_grammar.specs.Nesting.{max_brackets}
 use Rattle.toml_formatter.specs.Kinds.{is_closing, is_opening, last_after}
 use Rattle.toml_formatter.specs.Gaps.{is_last_remark}
 use Rattle.toml_statements.specs.Sound.{IsSound}
@@ -43,11 +43,11 @@ returns-then-closes-clause-within c =
 
 pub returns-in_ok-text-in-Comma-clause-within : goal.returns-in_ok-text-in-Comma-clause-within
 returns-in_ok-text-in-Comma-clause-within c =
-    plain_within c.args.first c.requires.named (ap is_opening c.in-Comma.is) (ap is_closing c.in-Comma.is) max_depth c.args.lexemes.now
+    plain_within c.args.first c.requires.named (ap is_opening c.in-Comma.is) (ap is_closing c.in-Comma.is) max_brackets c.args.lexemes.now
 
 pub returns-in_ok-text-in-Remark-clause-within : goal.returns-in_ok-text-in-Remark-clause-within
 returns-in_ok-text-in-Remark-clause-within c =
-    plain_within c.args.first c.requires.named (ap is_opening c.in-Remark.is) (ap is_closing c.in-Remark.is) max_depth c.args.lexemes.now
+    plain_within c.args.first c.requires.named (ap is_opening c.in-Remark.is) (ap is_closing c.in-Remark.is) max_brackets c.args.lexemes.now
 
 pub returns-in_ok-text-in-Comma-clause-line : goal.returns-in_ok-text-in-Comma-clause-line
 returns-in_ok-text-in-Comma-clause-line c =
