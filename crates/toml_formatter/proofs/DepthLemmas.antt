@@ -14,7 +14,7 @@ use Rattle.toml_formatter.specs.Errors.{IsFormatMemory, IsRefusalWithin, IsRefus
 use Rattle.toml_formatter.specs.Kinds.{is_closing, is_opening, IsPart}
 use Rattle.toml_formatter.specs.Lexing.{ClosesNext}
 use Rattle.toml_formatter.specs.declared.error.FormatError.{FormatError}
-use Rattle.toml_formatter.specs.declared.error.FormatError.TheVariants.{NotToml, TooDeep, Memory}
+use Rattle.toml_formatter.specs.declared.error.FormatError.TheVariants.{NotToml, TooDeep, LayoutNotToml, Memory}
 
 -- ---- one lexeme
 
@@ -107,6 +107,7 @@ rest_of (s ∷ ss) = ss
 -- the same, where what comes next is known to close it
 pub closed_within : (x : Lexeme) → is_opening x ≡ true → (depth : ℕ) → 1 ≤ depth → (old : List (List ℕ)) {ss : List (List ℕ)} (s : List ℕ)
     (left : List (List ℕ)) → ss ≡ s ∷ left → ClosesNext ss → TakesWithin (depth - 1) old ss → TakesWithin depth (toml_text_of x ∷ old) left
+unfolding rest_of
 closed_within x o depth some old s left is (inl e) inside = absurd (cc)
 closed_within x o depth some old s left is (inr (y, rest, e, c)) inside = λ n h.
     list_within x o y c depth some old rest (λ m k. inside m k ∙ ap (λ ss. nest_too_deep m ss) e) n h
@@ -146,11 +147,13 @@ of_memory P (Err y) f h = f y h
 pub memory_within : (depth : ℕ) (ss : List (List ℕ)) (e : FormatError) → IsFormatMemory e → IsRefusalWithin depth ss e
 memory_within depth ss NotToml h = absurd h
 memory_within depth ss TooDeep h = absurd h
+memory_within depth ss LayoutNotToml h = absurd h
 memory_within depth ss (Memory x) h = tt
 
 pub memory_of : (text : List ℕ) (e : FormatError) → IsFormatMemory e → IsRefusalOf text e
 memory_of text NotToml h = absurd h
 memory_of text TooDeep h = absurd h
+memory_of text LayoutNotToml h = absurd h
 memory_of text (Memory x) h = tt
 
 -- no bracket may be open, and one more is
@@ -166,6 +169,7 @@ list_refused x o depth some old NotToml h = absurd h
 list_refused x o depth some old TooDeep h = λ n e.
     let deeper : n + 1 + (depth - 1) ≡ max_brackets = omega (arith, e, some) in
     opened x o depth some old n e ∙ h (n + 1) deeper
+list_refused x o depth some old LayoutNotToml h = absurd h
 list_refused x o depth some old (Memory y) h = tt
 
 -- what comes after these lexemes is refused
@@ -173,6 +177,7 @@ pub refused_after : (depth : ℕ) (old : List (List ℕ)) {between next : List (
     → between ≡ next → IsRefusalWithin depth next e → IsRefusalWithin depth old e
 refused_after depth old NotToml f is h = absurd h
 refused_after depth old TooDeep f is h = λ n e. f n e ∙ ap (λ ss. nest_too_deep n ss) is ∙ h n e
+refused_after depth old LayoutNotToml f is h = absurd h
 refused_after depth old (Memory x) f is h = tt
 
 -- a text of which the lexemes that are left are refused
@@ -180,4 +185,5 @@ pub text_refused : (text : List ℕ) {between next : List (List ℕ)} (e : Forma
     → between ≡ next → IsRefusalWithin max_brackets next e → IsRefusalOf text e
 text_refused text NotToml f is h = absurd h
 text_refused text TooDeep f is h = f 0 refl ∙ ap (λ ss. nest_too_deep 0 ss) is ∙ h 0 refl
+text_refused text LayoutNotToml f is h = absurd h
 text_refused text (Memory x) f is h = tt
