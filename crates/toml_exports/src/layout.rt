@@ -25,6 +25,10 @@ fn text_laid(
     match formatted(alloc, text, style) {
         Ok(layout) => Status::LaidOut(put_text(layout.as_str(), limit, out, written)),
         Err(FormatError::NotToml | FormatError::TooDeep) => Status::NotToml,
+        Err(FormatError::LayoutNotToml) => {
+            *written = 0;
+            Status::LayoutNotToml
+        }
         Err(FormatError::Memory(_)) => {
             *written = 0;
             Status::Memory
