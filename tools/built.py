@@ -127,14 +127,20 @@ def ran(words, name, path):
 
 def build_over_left(name, path):
     """Proves a static library over those that `rt ci` left, and builds it. Whether that was done."""
-    at, here = kit(), crates()
+    os.makedirs(os.path.dirname(path), exist_ok=True)
+    libraries = {it: library_of(it) for it in below(name)}
+    return build_over(name, folder_of(name), crates()[name], libraries, path).returncode == 0
+
+
+def build_over(name, folder, uses, libraries, path):
+    """Proves a static library over those below it, whose rlibs are given by name, and builds it. What came of that."""
+    at = kit()
     words = ["--crate-name", name, "src/lib.rt", "-L", f"dependency={at}/rlibs", "--extern", f"std={at}/rlibs/std.rlib"]
-    for it in here[name]:
-        words += ["--extern", f"{it}={library_of(it) if it in here else f'{at}/rlibs/{it}.rlib'}"]
-    for it in below(name):
-        words += ["-L", f"dependency={os.path.dirname(library_of(it))}"]
+    for it in uses:
+        words += ["--extern", f"{it}={libraries.get(it) or f'{at}/rlibs/{it}.rlib'}"]
+    for it in libraries.values():
+        words += ["-L", f"dependency={os.path.dirname(it)}"]
     words += ["--antt-project", f"{at}/rattle/logic/antt-project.json", "--logic-built", f"{at}/logic_built"]
     words += ["--jobs", "1", "--links", f"{name}=", "--crate-type", "staticlib"]
     words += ["--toolchain", f"{at}/toolchain", "--backend", "llvm", "-o", path]
-    os.makedirs(os.path.dirname(path), exist_ok=True)
-    return run([f"{at}/bin/rattle", "build", *words], folder_of(name)).returncode == 0
+    return run([f"{at}/bin/rattle", "build", *words], folder)

@@ -7,7 +7,8 @@ A block is one of these:
   empty line between;
 - a listing: each part of it between empty lines stands in a file of crates/, apart from spaces and line ends;
 - a table alone, whose layouts a test in crates/test_* states, each as `(22, "..")`, where 22 is the width;
-- a line of crates.txt.
+- a line of crates.txt;
+- commands of a shell, each after `$ `.
 
 A table has a head, such as `80 columns | 2 columns`, and below it the layouts, without empty lines at their ends. In place of
 a width, a head may name options that the example has made. The layouts are those of what the last `let` names or, where the
@@ -139,9 +140,11 @@ def parted(block):
 
 
 def is_no_example(block, columns, texts):
-    """Whether it is a listing, a table of layouts that tests state, or a line of crates.txt."""
+    """Whether it is a listing, a table of layouts that tests state, a line of crates.txt, or commands of a shell."""
     if columns and len(block) == 1:
         return all(texts.state(it) for it in columns)
+    if all(it.startswith("$ ") for it in lines_of(block)):
+        return True
     return all(texts.have(it) for it in block) or LINE_OF_CRATES.fullmatch("\n".join(lines_of(block)))
 
 

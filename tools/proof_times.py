@@ -23,26 +23,41 @@ def process_of(number):
     return Process(int(fields[1]), fields[19], sum(map(int, fields[11:15])) / TICKS)
 
 
-def kind_of(number):
-    """What a process is there for, if it is one of the prover."""
+def words_of(number):
+    """The words of a process, if it is one of the prover."""
     try:
         with open(f"/proc/{number}/cmdline", "rb") as file:
             words = file.read().split(b"\0")
+    except OSError:
+        return []
+    return words if os.path.basename(words[0]) == b"rattle" else []
+
+
+def kind_of(number):
+    """What a process is there for, if it is one of the prover."""
+    words = words_of(number)
+    try:
         folder = os.path.basename(os.readlink(f"/proc/{number}/cwd"))
     except OSError:
         return None
-    if os.path.basename(words[0]) != b"rattle":
+    if not words:
         return None
     # rt tries an edit on a copy of the crate.
     return "edits" if folder.startswith("rt-edit-") else "proofs of tests" if b"--test" in words else "proofs"
 
 
+def crate_of(number):
+    """The crate that a process proves, if it is one of the prover."""
+    words = words_of(number)
+    return words[words.index(b"--crate-name") + 1].decode() if b"--crate-name" in words else None
+
+
 class ProofTimes(threading.Thread):
     """Looks at what runs below a process until it is told to stop."""
 
-    def __init__(self, root):
+    def __init__(self, root, kind_of=kind_of):
         super().__init__(daemon=True)
-        self.root, self.seconds, self.stopping = root, {}, threading.Event()
+        self.root, self.kind_of, self.seconds, self.stopping = root, kind_of, {}, threading.Event()
 
     def run(self):
         while not self.stopping.wait(PAUSE):
@@ -60,11 +75,15 @@ class ProofTimes(threading.Thread):
     def look_below(self, number, found, below):
         """Does so from one process on. What the copies of a run take is part of that run."""
         for it in below.get(number, []):
-            kind = kind_of(it)
+            kind = self.kind_of(it)
             if kind:
                 self.seconds[it, found[it].start] = kind, taken(it, found, below)
             else:
                 self.look_below(it, found, below)
+
+    def of(self, wanted):
+        """The seconds of one kind, up to now."""
+        return sum(seconds for kind, seconds in list(self.seconds.values()) if kind == wanted)
 
     def stop(self):
         """The seconds of each kind."""

@@ -43,6 +43,9 @@
 #error "the library is for machines whose size_t has 64 bits"
 #endif
 
+/* The version of this header, and of the library that it came with. */
+#define PL_VERSION "0.4.0"
+
 #ifdef __cplusplus
 extern "C" {
 #endif
@@ -218,6 +221,12 @@ uint32_t prettyless_toml(const uint8_t *text, size_t length, size_t width, uint3
 #ifdef __cplusplus
 }
 #endif
+
+/* The version of this header, for languages that read no macros. */
+static inline const char *pl_version(void)
+{
+    return PL_VERSION;
+}
 
 /* A short message for a status, in English, without a full stop. */
 static inline const char *pl_message(uint32_t status)

@@ -1,10 +1,11 @@
 """Packs the package and the library into a wheel, by the standard library alone.
 
-    python3 make_wheel.py [FOLDER]
+    python3 make_wheel.py [--unproved] [FOLDER]
 
 The wheel is put into the folder, which is `dist` beside this file where it is not given; its path is printed. The
 environment variable PRETTYLESS may name the library, a file; else it is `bindings/out/libprettyless.so`. The same files
-give the same bytes. Without a library there is a message, and the status is 1.
+give the same bytes. Without a library there is a message, and the status is 1. With --unproved the version ends in
+`+unproved`: that is for a library that was built without its proofs.
 """
 
 import argparse
@@ -54,12 +55,12 @@ def version():
     return re.search(r'__version__ = "([^"]+)"', read(HERE, NAME, "__init__.py").decode()).group(1)
 
 
-def metadata():
-    """What the wheel is, and the page of the package."""
+def metadata(number):
+    """What the wheel of this version is, and the page of the package."""
     fields = [
         "Metadata-Version: 2.1",
         f"Name: {NAME}",
-        f"Version: {version()}",
+        f"Version: {number}",
         f"Summary: {SUMMARY}",
         "License: MIT",
         "License-File: LICENSE",
@@ -74,19 +75,21 @@ def metadata():
     return "\n".join(fields).encode() + b"\n\n" + read(HERE, "README.md")
 
 
-def package():
-    """The files of the package, by the names that they have in the wheel, but for the library."""
+def package(number):
+    """The files of the package of this version, by the names that they have in the wheel, but for the library."""
     names = sorted(os.listdir(os.path.join(HERE, NAME)))
     kept = [name for name in names if name.endswith(".py") or name == "py.typed"]
-    return {f"{NAME}/{name}": read(HERE, NAME, name) for name in kept}
+    files = {f"{NAME}/{name}": read(HERE, NAME, name) for name in kept}
+    was, now = (f'__version__ = "{it}"'.encode() for it in (version(), number))
+    return {name: content.replace(was, now) for name, content in files.items()}
 
 
-def about(info, wheel_tag):
+def about(info, number, wheel_tag):
     """The files that say what the wheel is."""
     wheel = f"Wheel-Version: 1.0\nGenerator: make_wheel\nRoot-Is-Purelib: false\nTag: {wheel_tag}\n"
     return {
         f"{info}/LICENSE": read(REPOSITORY, "LICENSE"),
-        f"{info}/METADATA": metadata(),
+        f"{info}/METADATA": metadata(number),
         f"{info}/NOTICE": read(REPOSITORY, "NOTICE"),
         f"{info}/WHEEL": wheel.encode(),
     }
@@ -112,27 +115,29 @@ def pack(path, files):
             archive.writestr(entry, content)
 
 
-def make(folder):
+def make(folder, is_proved=True):
     """Makes the wheel in a folder, and answers its path."""
     code = library()
-    wheel_tag = tag(code)
-    info = f"{NAME}-{version()}.dist-info"
-    files = {**package(), f"{NAME}/{LIBRARY}": code, **about(info, wheel_tag)}
+    wheel_tag, number = tag(code), version() + ("" if is_proved else "+unproved")
+    info = f"{NAME}-{number}.dist-info"
+    files = {**package(number), f"{NAME}/{LIBRARY}": code, **about(info, number, wheel_tag)}
     files[f"{info}/RECORD"] = record(files, f"{info}/RECORD")
     os.makedirs(folder, exist_ok=True)
-    path = os.path.join(folder, f"{NAME}-{version()}-{wheel_tag}.whl")
+    path = os.path.join(folder, f"{NAME}-{number}-{wheel_tag}.whl")
     pack(path, files)
     return path
 
 
-def wanted_folder():
-    """The folder that the arguments name."""
+def wanted():
+    """What the arguments ask for."""
     dist = os.path.join(HERE, "dist")
     library_used = f"The wheel has the library that the variable PRETTYLESS names, else bindings/out/{LIBRARY}."
     reader = argparse.ArgumentParser(description=__doc__.splitlines()[0], epilog=library_used)
     reader.add_argument("folder", metavar="FOLDER", nargs="?", default=dist, help="gets the wheel (if not given: dist)")
-    return reader.parse_args().folder
+    reader.add_argument("--unproved", action="store_true", help="says that the library was built without its proofs")
+    return reader.parse_args()
 
 
 if __name__ == "__main__":
-    print(make(wanted_folder()))
+    options = wanted()
+    print(make(options.folder, not options.unproved))

@@ -84,7 +84,7 @@ from yezhgulo.errors import *
 from yezhgulo.json_text import format_json
 from yezhgulo.toml_text import format_toml
 
-__version__ = "0.1.0"
+__version__ = "0.4.0"
 
 __all__ = ["format_json", "format_toml"]
 __all__ += documents.__all__

@@ -69,3 +69,6 @@ pub use layout::{layout, Print};
 pub use options::{IndentationPolicy, LineEnding, RenderOptions};
 pub use toml::{format_toml, TomlError, TomlStyle};
 pub use writer::Writer;
+
+/// The version of this crate, and of the library that it came with.
+pub const VERSION: &str = env!("CARGO_PKG_VERSION");

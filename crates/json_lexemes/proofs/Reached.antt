@@ -16,6 +16,7 @@ use Rattle.json_lexemes.specs.SpacedLexemes.{spaced_as, spaced_lexemes}
 use Rattle.json_lexemes.specs.declared.expected.Expected.{Expected}
 use Rattle.json_lexemes.specs.declared.expected.Expected.TheVariants as want
 use Rattle.json_lexemes.specs.declared.fault.Stop.{Stop}
+use Rattle.json_lexemes.proofs.Content.{string_within}
 use Rattle.json_lexemes.proofs.SpacedLexemes.{texts_joined}
 
 -- ---- lexemes one after the other
@@ -59,7 +60,7 @@ fault_within colon r s d e h = omega (arith, h.0)
 fault_within string r s d e h = by (cases_Bool (expects_string r.next))
   where
     by : (expects_string r.next ≡ true) ⊎ (expects_string r.next ≡ false) → d ≤ length s
-    by (inl may) = (h.inside may).0
+    by (inl may) = string_within s d e (h.inside may)
     by (inr not) = omega (arith, (h.other not).0)
 fault_within word r s d e h = omega (arith, h.0, front_within (begins_value r s) s)
 

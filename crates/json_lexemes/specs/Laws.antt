@@ -8,6 +8,7 @@ use Rattle.json_lexemes.specs.SpacedLexemes.{AreGaps, lexemes_of, put_together, 
 use Rattle.json_lexemes.specs.Faults.{StopsAtEnd, StopsAtLexeme}
 use Rattle.json_lexemes.specs.Grammar.{SpellValue}
 use Rattle.json_lexemes.specs.Readings.{JsonReading, first_json_reading, json_reading_after}
+use Rattle.json_lexemes.specs.Strings.{IsStringFault}
 use Rattle.json_lexemes.specs.declared.expected.Expected.{Expected}
 use Rattle.json_lexemes.specs.declared.expected.Expected.TheVariants as want
 
@@ -66,6 +67,11 @@ TextsBeginJson = (text : List ℕ) (offset : ℕ) (e : Expected) → StopsAtEnd 
 -- a text that stops at its end is no JSON
 abbrev pub EndsTooSoon : Type 0
 EndsTooSoon = (text : List ℕ) (offset : ℕ) (e : Expected) → StopsAtEnd text offset e → document text ≡ None
+
+-- a string stops being one of JSON at one place, and there is one thing that was expected
+abbrev pub StringsStopOnce : Type 0
+StringsStopOnce =
+    (s : List ℕ) (d other : ℕ) (e f : Expected) → IsStringFault s d e → IsStringFault s other f → (d ≡ other) × (e ≡ f)
 
 -- the lexemes of a text that is a value spell a value
 abbrev pub LexemesSpellValues : Type 0

@@ -60,7 +60,6 @@ pub const COPIED: &[Kind] = &[Kind::Interspersed, Kind::Owned];
 /// The document that stays while others are built.
 pub const KEPT: Kind = Kind::Suffixes;
 
-
 /// The document whose visits are counted.
 pub const COUNTED: Kind = Kind::Grouped;
 

@@ -1,0 +1,109 @@
+"""A toolchain that has the proved library among its own, for tools/install and tools/release. Python 3.8 or later.
+
+With its `rt`, a crate of any repository names `prettyless` in crates.txt as it names `json`. It is a folder of links to
+the plain toolchain, with `bin` copied: rt finds its toolchain by its own real path. What a proof has made of the
+library serves the very build of the toolchain that made it, so a record says which that was.
+"""
+
+import hashlib
+import json
+import os
+import shutil
+import tarfile
+
+from repositories import with_below
+
+# The crates that are for other repositories; those below them come along.
+NAMED = ("prettyless", "prettyless_shapes")
+RECORD = "yezhgulo.json"
+# What `rt try` and `rt lemma` read of a library.
+SOURCES = ("src", "specs", "proofs")
+
+
+def build_of(kit):
+    """What tells a build of the toolchain from others."""
+    texts = []
+    for name in ("KIT-ID", "WHAT"):
+        with open(f"{kit}/{name}", encoding="utf-8") as file:
+            texts.append(file.read().strip())
+    return "\n".join(texts)
+
+
+def is_plain(kit):
+    """Whether a toolchain lacks the library."""
+    return not any(os.path.exists(f"{kit}/rlibs/{name}.rlib") for name in NAMED)
+
+
+def sum_of(crates):
+    """A sum of all that a proof reads of these crates."""
+    sums = hashlib.sha256()
+    for crate in crates:
+        for part in SOURCES:
+            for at, folders, files in os.walk(f"{crate.folder}/{part}"):
+                folders.sort()
+                for name in sorted(files):
+                    with open(f"{at}/{name}", "rb") as file:
+                        sums.update(repr((os.path.relpath(f"{at}/{name}", crate.folder), file.read())).encode())
+    return sums.hexdigest()
+
+
+def record_of(kit, crates, what):
+    """The record of the libraries that a toolchain proved of these crates, with what else is to be known of them."""
+    return {"toolchain": build_of(kit), "sources": sum_of(with_below(NAMED, crates)), **what}
+
+
+def difference(record, kit, crates):
+    """Why libraries with this record do not serve here, or nothing where they do."""
+    if record.get("toolchain") != build_of(kit):
+        proved_by = record.get("toolchain", "another toolchain").splitlines()[0]
+        return f"they were proved by {proved_by}, and this is another build: {build_of(kit).splitlines()[0]}"
+    if record.get("sources") != sum_of(with_below(NAMED, crates)):
+        return "they were proved of other sources than those of this checkout"
+    return ""
+
+
+def collect(crates, library, record, to):
+    """Puts the libraries into a folder, each as its `library` names its place, with their sources and the record."""
+    for crate in with_below(NAMED, crates):
+        shutil.copytree(library(crate.name), f"{to}/rlibs/{crate.name}.rlib")
+        for part in SOURCES:
+            if os.path.isdir(f"{crate.folder}/{part}"):
+                shutil.copytree(f"{crate.folder}/{part}", f"{to}/rattle/{crate.name}/{part}")
+    with open(f"{to}/{RECORD}", "w", encoding="utf-8") as file:
+        json.dump(record, file, indent=1)
+
+
+def unpack(archive, to):
+    """Unpacks an archive of such a folder, and answers its record."""
+    with tarfile.open(archive) as packed:
+        for member in packed.getmembers():
+            parts = member.name.split("/")
+            if member.name.startswith("/") or ".." in parts or not (member.isdir() or member.isfile()):
+                raise OSError(f"{archive} has {member.name}, which has no place in it")
+            packed.extract(member, to, set_attrs=False)
+    with open(f"{to}/{RECORD}", encoding="utf-8") as file:
+        return json.load(file)
+
+
+def link_all(folder, to):
+    os.makedirs(to)
+    for name in os.listdir(folder):
+        os.symlink(f"{folder}/{name}", f"{to}/{name}")
+
+
+def make(kit, libraries, to):
+    """Makes the toolchain in a folder, of a plain one and a folder of libraries, or in place of one made so before."""
+    if os.path.lexists(to) and not os.path.exists(f"{to}/{RECORD}"):
+        raise OSError(f"{to} is there, and was not made by tools/install --toolchain: remove it or name another folder")
+    shutil.rmtree(f"{to}.new", ignore_errors=True)
+    link_all(kit, f"{to}.new")
+    for part in ("bin", "rlibs", "rattle"):
+        os.remove(f"{to}.new/{part}")
+    shutil.copytree(f"{kit}/bin", f"{to}.new/bin")
+    for part in ("rlibs", "rattle"):
+        link_all(f"{kit}/{part}", f"{to}.new/{part}")
+        for name in os.listdir(f"{libraries}/{part}"):
+            shutil.move(f"{libraries}/{part}/{name}", f"{to}.new/{part}/{name}")
+    shutil.copy(f"{libraries}/{RECORD}", f"{to}.new/{RECORD}")
+    shutil.rmtree(to, ignore_errors=True)
+    os.rename(f"{to}.new", to)

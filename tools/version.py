@@ -1,0 +1,59 @@
+"""The version, and the places that have it, for the scripts of this folder. Python 3.8 or later."""
+
+import os
+import re
+import subprocess
+from collections import namedtuple
+
+ROOT = os.path.dirname(os.path.dirname(os.path.abspath(__file__)))
+NUMBER = r"(\d[\w.+-]*)"
+
+# A file that has the version, what stands before it there, and how often.
+Place = namedtuple("Place", "path pattern times")
+
+
+def place(path, before, times=1):
+    return Place(path, re.compile(f"({before}){NUMBER}", re.M), times)
+
+
+# The programs' own `--version` lines, by the crates whose sources have their words.
+WORDS = {"jsonfmt": "jsonfmt_request", "tomlfmt": "tomlfmt_request"}
+PLACES = [
+    *(place(f"crates/{crate}/src/request.rt", f'"{name}", "') for name, crate in WORDS.items()),
+    place("crates/tomlfmt_request/edits/asks_for_jsonfmt.edit", r'"(?:json|toml)fmt", "', 2),
+    place("programs/jsonfmt/words.cases", 'jsonfmt (?=[^"]*" \\.\\.$)', 2),
+    place("programs/tomlfmt/files.cases", 'tomlfmt (?=[^"]*" \\.\\.$)'),
+    *(place(f"docs/{name}.1", f'^\\.TH \\w+ 1 "" "{name} ') for name in WORDS),
+    place("bindings/c/prettyless.h", '^#define PL_VERSION "'),
+    place("bindings/python/yezhgulo/__init__.py", '^__version__ = "'),
+    place("bindings/rust/Cargo.toml", '^version = "'),
+]
+
+
+def read(path):
+    with open(f"{ROOT}/{path}", encoding="utf-8") as file:
+        return file.read()
+
+
+def version():
+    return read("VERSION").strip()
+
+
+def others():
+    """Each place that has another version or another number of them, and what it has."""
+    found = [(it, [found[2] for found in it.pattern.finditer(read(it.path))]) for it in PLACES]
+    return [(it.path, numbers) for it, numbers in found if numbers != [version()] * it.times]
+
+
+def commit():
+    """The commit that the checkout stands on, with a + where files differ from it. Nothing where git does not say."""
+    try:
+        return git("rev-parse", "--short=8", "HEAD") + "+" * bool(git("status", "--porcelain"))
+    except (OSError, subprocess.CalledProcessError):
+        return ""
+
+
+def git(*words):
+    """What a command of git prints."""
+    how = {"stdout": subprocess.PIPE, "stderr": subprocess.DEVNULL, "universal_newlines": True}
+    return subprocess.run(["git", *words], cwd=ROOT, check=True, **how).stdout.strip()
