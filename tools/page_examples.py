@@ -13,8 +13,6 @@ A block is one of these:
 A table has a head, such as `80 columns | 2 columns`, and below it the layouts, without empty lines at their ends. In place of
 a width, a head may name options that the example has made. The layouts are those of what the last `let` names or, where the
 example names `width`, what is in `out` after it was run with that. `·` is a space at the end of a line, `␍` a CR.
-
-Commands stand between a line ```sh and a line ```, and are no block.
 """
 
 import collections
@@ -84,35 +82,23 @@ def literal(text):
     return json.dumps(text, ensure_ascii=False)
 
 
-def without_commands(path, faults):
-    """The lines of a page, with a dot in place of each line of commands."""
-    opened = 0
-    with open(path, encoding="utf-8") as lines:
-        for number, line in enumerate(lines, 1):
-            opened = opened or (number if line == "```sh\n" else 0)
-            yield "." if opened else line
-            if line == "```\n":
-                opened = 0
-    if opened:
-        faults.append(f"{path}:{opened}: these commands have no end")
-
-
 def blocks_of(path, faults):
     """The blocks of a page, each as the list of its parts."""
     block, part = [], []
-    for number, line in enumerate([*without_commands(path, faults), "end"], 1):
-        if line.startswith("    "):
-            if not part:
-                block.append(Part(number, part))
-            part.append(line[4:].rstrip("\n"))
-        elif not line.strip():
-            part = []
-        else:
-            if block:
-                yield block
-            block, part = [], []
-            if FENCE.match(line):
-                faults.append(f"{path}:{number}: blocks of this page are indented, and have no fence, but for ```sh")
+    with open(path, encoding="utf-8") as lines:
+        for number, line in enumerate([*lines, "end"], 1):
+            if line.startswith("    "):
+                if not part:
+                    block.append(Part(number, part))
+                part.append(line[4:].rstrip("\n"))
+            elif not line.strip():
+                part = []
+            else:
+                if block:
+                    yield block
+                block, part = [], []
+                if FENCE.match(line):
+                    faults.append(f"{path}:{number}: blocks of this page are indented, and have no fence")
 
 
 def cells_of(line, bars):
