@@ -53,7 +53,11 @@ def without_parameters(head):
 def type_words(of):
     """A type within the words of an `impl`."""
     of = re.sub(r"&(?:'\w+ )?mut ", "RefMut ", of.strip())
-    return joined_words(re.sub(r"&(?:'\w+ )?", "Ref ", of).replace("[", "Slice ["))
+    of = re.sub(r"&(?:'\w+ )?", "Ref ", of).replace("[", "Slice [")
+    if of.startswith("("):
+        parts = len([it for it in of.strip("()").split(",") if it.strip()])
+        return f"Tuple{parts}" if parts else "Unit"
+    return joined_words(of) or "Any"
 
 
 def joined_words(text):
