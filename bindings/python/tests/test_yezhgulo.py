@@ -2,7 +2,7 @@
 
     python3 -m unittest discover -s tests
 
-The layouts of `GUIDE` are those of docs/GUIDE.md. The others are worked by hand.
+Most layouts of `GUIDE` are those of docs/GUIDE.md. The others are worked by hand.
 """
 
 import copy
@@ -41,7 +41,7 @@ def with_body(body):
     return concat("head", hard_line, body)
 
 
-# Documents of the guide, and their layouts by width.
+# Constructs of the guide, and layouts by width.
 GUIDE = {
     "group": (group(pair("a", "b")), {80: "a b", 2: "a\nb"}),
     "display width": (group(pair("42", "你好")), {7: "42 你好", 6: "42\n你好"}),

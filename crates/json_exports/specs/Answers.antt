@@ -5,6 +5,7 @@ use Rattle.json_validity.specs.Document.{document}
 use Rattle.json_formatter.specs.Formats.{IsFormatted}
 use Rattle.json_formatter.specs.declared.style.Style.{Style}
 use Rattle.json_lexemes.specs.Expected.{name_of}
+use Rattle.json_lexemes.specs.Faults.{IsEndOfUtf8, NamesJsonStop}
 use Rattle.text_places.specs.Places.{IsPlaceWithin}
 use Rattle.json_lexemes.specs.declared.expected.Expected.{Expected}
 use Rattle.json_lexemes.specs.declared.expected.Expected.TheVariants.{Utf8}
@@ -27,6 +28,10 @@ pub record IsJsonFault (text old new : List ℕ) (written line column : ℕ) : T
   pub name : Holds (name_of expected) old new written
   -- where the text is not UTF-8, that was expected
   pub encoding : ¬ IsUtf8 text → expected ≡ Utf8
+  -- and the place is that of the first byte that is none
+  pub no_utf8 : ¬ IsUtf8 text → IsEndOfUtf8 text (record { line = line; column = column })
+  -- where it is, and no JSON, it stops being JSON there, and this was expected
+  pub stop : IsUtf8 text → document text ≡ None → NamesJsonStop text (record { line = line; column = column }) expected
 
 -- The answer to a text, for an area that held `old` and holds `new`.
 pub record AnswersJson (style : Style) (limit : ℕ) (text old new : List ℕ) (written line column status : ℕ) : Type 0 where

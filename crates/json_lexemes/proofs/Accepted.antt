@@ -10,7 +10,7 @@ use Rattle.json.specs.Json as json
 use Rattle.json.specs.Json.{Json, if_last, value}
 use Rattle.json.specs.Token.{Token, begin_object, end_object, begin_array, end_array, key, string, number, boolean, null, bad}
 use Rattle.json.specs.Word.{is_operator, is_space, head, ends_word, word}
-use Rattle.json.specs.Lex.{Lexeme, token, other, between, lex, punctuate, fresh}
+use Rattle.json.specs.Lex.{Lexeme, token, between, lex, punctuate, fresh}
 use Rattle.json.proofs.Grammar.{value_is}
 use Rattle.json_validity.specs.Document.{document, max_depth}
 use Rattle.json_lexemes.specs.Grammar.{Value, alone, array, object, Items, no_items, item, Members, no_members, member}
@@ -151,7 +151,8 @@ module _ (bs : List Bracket) (n : Expected) where
           ∙ value_taken s e (subst (λ o. IsLeafIfAny o s) sorted leaf)
       by (inr not) =
           let no_quote : head s ≢ 34 = λ is. false≢true (sym not ∙ ap (λ x. x == 34) is) in
-          let sorted : json_sort_of s ≡ sort.word = word_byte (head s) no_quote (or_parts (is_operator (head s)) (is_space (head s)) formed).0 in
+          let sorted : json_sort_of s ≡ sort.word =
+          word_byte (head s) no_quote (or_parts (is_operator (head s)) (is_space (head s)) formed).0 in
           ap (λ o. sort_step o (before bs n) s) sorted ∙ value_taken s e (subst (λ o. IsLeafIfAny o s) sorted leaf)
 
   key_step : (s : List ℕ) → head s ≡ 34 → IsLeafIfAny (json_sort_of s) s → is_key n ≡ true → json_step (before bs n) s
@@ -178,7 +179,8 @@ pub close_step : (bs : List Bracket) (b : Bracket)
     → Some (after_value_in (take (length (bs ++ b ∷ []) - 1) (bs ++ b ∷ []))) ≡ Some (after_value_in bs)
 close_step bs b = ap (λ (l : List Bracket). Some (after_value_in l)) (outer_push bs b)
 
-pub stepped : (r t : JsonReading) (s : List ℕ) (ss : List (List ℕ)) → json_step r s ≡ Some t → json_reading_after r (s ∷ ss) ≡ json_reading_after t ss
+pub stepped : (r t : JsonReading) (s : List ℕ) (ss : List (List ℕ)) → json_step r s ≡ Some t
+    → json_reading_after r (s ∷ ss) ≡ json_reading_after t ss
 stepped r t s ss e = ap (option_and_then (λ (x : JsonReading). json_reading_after x ss)) e
 
 -- what comes after a value in brackets
@@ -285,7 +287,8 @@ mutual
 
 -- ---- the whole text
 
-pub accepted : (text : List ℕ) (v : Json) → document text ≡ Some v → json_reading_after first_json_reading (lexemes text) ≡ Some (before [] want.End)
+pub accepted : (text : List ℕ) (v : Json) → document text ≡ Some v
+    → json_reading_after first_json_reading (lexemes text) ≡ Some (before [] want.End)
 accepted text v e =
     let spell = spell_document text v e in
     let same : lexemes text ≡ spelled spell.value ++ [] = spell.spells ∙ sym (append-nil (spelled spell.value)) in

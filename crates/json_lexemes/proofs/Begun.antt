@@ -1,31 +1,33 @@
 -- The bytes before where a text stops being JSON begin a text that is JSON.
-use Rattle.std.proofs.Common.{◌≡◌, ◌≢◌, ℕ, zero, suc, ◌+◌, ◌-◌, ◌≤◌, true, false, Bool, cond, ◌&&◌, List, [], ◌∷◌, ◌++◌, length, take}
-use Rattle.std.proofs.Common.{reverse, Option, Some, None, option_and_then, refl, sym, ap, ◌∙◌, subst, arith, append-nil, append_assoc}
+use Rattle.std.proofs.Common.{◌≡◌, ℕ, zero, suc, ◌+◌, ◌-◌, ◌≤◌, true, false, Bool, cond, ◌&&◌, ◌||◌, List, [], ◌∷◌}
+use Rattle.std.proofs.Common.{◌++◌, length, take, drop, reverse, Option, Some, None, option_and_then, refl, sym, ap, ◌∙◌, subst, arith}
+use Rattle.std.proofs.Common.{append-nil, append_assoc}
 use Rattle.std.specs.Prelude.{⊤}
 use Rattle.std.proofs.lemmas.Bool.{true≢false, and_parts, or_parts}
-use Rattle.std.proofs.lemmas.List.{length-append, reverse-reverse}
-use Rattle.std.proofs.Math.Seq.{take-append_seam}
+use Rattle.std.proofs.lemmas.List.{length-append, reverse-reverse, take-append-le}
+use Rattle.std.proofs.Math.Seq.{drop-append_seam, take-append-add, take-append_seam}
 use Rattle.json.specs.Text.{content}
-use Rattle.json.specs.Token.{string}
-use Rattle.json.specs.Word.{is_operator, is_space, ends_word}
+use Rattle.json.specs.Word.{is_operator, is_space, ends_word, head}
 use Rattle.json.specs.Lex.{Class, quote, backslash, operator, space, other, class, between, in_word, in_string, lex}
 use Rattle.json.proofs.Found.{Some_inj}
-use Rattle.json_lexemes.specs.Faults.{ReachesJson}
-use Rattle.json_lexemes.specs.Laws.{BeginsJson, FrontsBeginJson, TextsBeginJson}
+use Rattle.json_lexemes.specs.Faults.{ReachesJson, StopsAtLexeme, expects_string}
+use Rattle.json_lexemes.specs.Laws.{BeginsJson, FrontsBeginJson, StringsBeginJson, TextsBeginJson}
 use Rattle.json_lexemes.specs.Lexemes.{lengthened, cut, lexemes}
 use Rattle.json_lexemes.specs.Next as next
 use Rattle.json_lexemes.specs.Next.{closes_array, closes_object, expects_value, is_key}
 use Rattle.json_lexemes.specs.Readings as sort
 use Rattle.json_lexemes.specs.Readings.{JsonReading, JsonSort, before, after_value_in, first_json_reading, is_leaf}
-use Rattle.json_lexemes.specs.Readings.{json_reading_after, json_sort_of, sort_step, valued}
+use Rattle.json_lexemes.specs.Readings.{json_reading_after, json_sort_of, json_step, keyed, sort_step, valued}
 use Rattle.json_lexemes.specs.Spaced.{IsGap}
 use Rattle.json_lexemes.specs.SpacedLexemes.{AreGaps, Spaced, after_gap, lexemes_of, put_together, spaced_as, spaced_lexemes}
+use Rattle.json_lexemes.specs.Strings.{is_closed_at}
 use Rattle.json_lexemes.specs.declared.expected.Expected.{Expected}
 use Rattle.json_lexemes.specs.declared.expected.Expected.TheVariants as want
 use Rattle.json_lexemes.specs.declared.next.Bracket.{Bracket}
 use Rattle.json_lexemes.specs.declared.next.Bracket.TheVariants.{Array, Object}
 use Rattle.json_lexemes.proofs.Accepted.{AreLeaves, IsLeafIfAny, close_step, stepped, string_leaf}
 use Rattle.json_lexemes.proofs.Classes.{IsOfClass, IsOfClass-class, each_operator}
+use Rattle.json_lexemes.proofs.Closing.{leaf_cut}
 use Rattle.json_lexemes.proofs.Completed.{Fits, IsGood, first, innermost_first, is_document, one_step, reversed, step_good, taken}
 use Rattle.json_lexemes.proofs.Meeting.{bad_leaf, leaf_content, passes}
 use Rattle.json_lexemes.proofs.NotEmpty.{IsBegun}
@@ -69,7 +71,8 @@ string_off : (f rest : List ℕ) → is_leaf (34 ∷ f) ≡ true → cut between
 string_off f rest leaf cuts r =
     let c = leaf_content f leaf in
     let w = whole_string f c.0 c.1 in
-    let more : w.front ++ (w.rest ++ rest) ≡ f ++ rest = sym (append_assoc w.front w.rest rest) ∙ ap (λ (l : List ℕ). l ++ rest) (sym w.is) in
+    let more : w.front ++ (w.rest ++ rest) ≡ f ++ rest =
+    sym (append_assoc w.front w.rest rest) ∙ ap (λ (l : List ℕ). l ++ rest) (sym w.is) in
     let again : cut between (34 ∷ (f ++ rest)) ≡ (34 ∷ w.front) ∷ cut between (w.rest ++ rest) =
     ap (λ (l : List ℕ). cut between (34 ∷ l)) (sym more) ∙ w.cuts (w.rest ++ rest) in
     let same : w.front ≡ f = cc in
@@ -102,7 +105,8 @@ module _ (n : ℕ) (shorter : (xs : List ℕ) → length xs ≤ n → HasCuts xs
       let says : IsOfClass other x = subst (λ c. IsOfClass c x) e (IsOfClass-class x) in
       let split : x ∷ xs ≡ (x ∷ w.front) ++ w.rest = ap (λ (l : List ℕ). x ∷ l) w.is in
       one_cut (x ∷ w.front) (x ∷ xs) w.rest (ap (cut between) split ∙ cut-word x w.front w.rest e w.run w.ended) split
-      (or_parts (is_operator x) (is_space x) says).1 (λ leaf r ends. cut-word x w.front r e w.run (ends w.ended)) (rest_cut w.front w.rest w.is)
+      (or_parts (is_operator x) (is_space x) says).1
+      (λ leaf r ends. cut-word x w.front r e w.run (ends w.ended)) (rest_cut w.front w.rest w.is)
 
   by_class : (x : ℕ) (c : Class) → class x ≡ c → IsOfClass c x → HasCuts (x ∷ xs)
   by_class x quote e says = subst (λ y. HasCuts (y ∷ xs)) (sym says) at_quote
@@ -120,35 +124,39 @@ cuts_within (suc n) (x ∷ xs) le = by_class n (cuts_within n) xs (omega arith) 
 
 -- ---- the first lexemes before other bytes
 
-record Front (xs : List ℕ) (ss others : List (List ℕ)) (more : List ℕ) : Type 0 where
+-- where those end, others come here; before bytes that end a word where these do, they are cut off alike
+record Front (xs : List ℕ) (ss others : List (List ℕ)) : Type 0 where
   ps : List Spaced
-  later : List Spaced
-  splits : spaced_as xs (ss ++ others) ≡ ps ++ later
+  here : List ℕ
+  left : AreCutOff here others
+  splits : spaced_as xs (ss ++ others) ≡ ps ++ spaced_as here others
   same : lexemes_of ps ≡ ss
-  cuts : cut between (put_together ps ++ more) ≡ ss ++ cut between more
-  ends : ends_word xs ≡ true → ends_word (put_together ps ++ more) ≡ true
+  cuts : (more : List ℕ) → (ends_word here ≡ true → ends_word more ≡ true) → cut between (put_together ps ++ more) ≡ ss ++ cut between more
+  ends : (more : List ℕ) → (ends_word here ≡ true → ends_word more ≡ true) → ends_word xs ≡ true
+      → ends_word (put_together ps ++ more) ≡ true
 
 same_start : (g s a b : List ℕ) → IsBegun s → ends_word (g ++ (s ++ a)) ≡ true → ends_word (g ++ (s ++ b)) ≡ true
 same_start [] [] a b h e = absurd h
 same_start [] (x ∷ s) a b h e = e
 same_start (x ∷ g) s a b h e = e
 
-front_of : (ss others : List (List ℕ)) (xs more : List ℕ) → AreCutOff xs (ss ++ others) → AreLeaves ss → ends_word more ≡ true
-    → Front xs ss others more
-front_of [] others xs more h leaves ended =
-    record { ps = []; later = spaced_as xs others; splits = refl; same = refl; cuts = refl; ends = λ e. ended }
-front_of (s ∷ ss) others xs more (g, rest, gap, begun, is, off, h) leaves ended =
-    let f = front_of ss others rest more h leaves.1 ended in
-    let r = put_together f.ps ++ more in
-    let bytes : put_together (after_gap g s ∷ f.ps) ++ more ≡ g ++ (s ++ r) =
-    append_assoc g (s ++ put_together f.ps) more ∙ ap (λ (l : List ℕ). g ++ l) (append_assoc s (put_together f.ps) more) in
+front_of : (ss others : List (List ℕ)) (xs : List ℕ) → AreCutOff xs (ss ++ others) → AreLeaves ss → Front xs ss others
+front_of [] others xs h leaves =
+    record { ps = []; here = xs; left = h; splits = refl; same = refl; cuts = λ more kept. refl; ends = λ more kept. kept }
+front_of (s ∷ ss) others xs (g, rest, gap, begun, is, off, h) leaves =
+    let f = front_of ss others rest h leaves.1 in
+    let bytes : (more : List ℕ) → put_together (after_gap g s ∷ f.ps) ++ more ≡ g ++ (s ++ (put_together f.ps ++ more)) =
+    λ more. append_assoc g (s ++ put_together f.ps) more ∙ ap (λ (l : List ℕ). g ++ l) (append_assoc s (put_together f.ps) more) in
     record {
       ps = after_gap g s ∷ f.ps;
-      later = f.later;
+      here = f.here;
+      left = f.left;
       splits = first_spaced xs g s rest (ss ++ others) gap begun is ∙ ap (λ (l : List Spaced). after_gap g s ∷ l) f.splits;
       same = ap (λ (l : List (List ℕ)). s ∷ l) f.same;
-      cuts = ap (cut between) bytes ∙ cut-gap g (s ++ r) gap ∙ off leaves.0 r f.ends ∙ ap (λ (l : List (List ℕ)). s ∷ l) f.cuts;
-      ends = λ e. ap ends_word bytes ∙ same_start g s rest r begun (sym (ap ends_word is) ∙ e);
+      cuts = λ more kept.
+          ap (cut between) (bytes more) ∙ cut-gap g (s ++ (put_together f.ps ++ more)) gap
+          ∙ off leaves.0 (put_together f.ps ++ more) (f.ends more kept) ∙ ap (λ (l : List (List ℕ)). s ∷ l) (f.cuts more kept);
+      ends = λ more kept e. ap ends_word (bytes more) ∙ same_start g s rest (put_together f.ps ++ more) begun (sym (ap ends_word is) ∙ e);
     }
 
 same_count : (ps : List Spaced) → length (lexemes_of ps) ≡ length ps
@@ -160,18 +168,31 @@ same_front ps qs rs ts e count =
     sym (take-append_seam ps qs) ∙ ap (λ (l : List Spaced). take (length ps) l) e ∙ ap (λ (k : ℕ). take k (rs ++ ts)) count
     ∙ take-append_seam rs ts
 
+-- where the rest of what was spaced begins
+record Left (rest : List Spaced) : Type 0 where
+  here : List ℕ
+  left : AreCutOff here (lexemes_of rest)
+  splits : rest ≡ spaced_as here (lexemes_of rest)
+
 -- what was read is cut off alike before other bytes
 read_cut : (text : List ℕ) (front rest : List Spaced) (more : List ℕ) → spaced_lexemes text ≡ front ++ rest → AreLeaves (lexemes_of front)
-    → ends_word more ≡ true
+    → ((l : Left rest) → ends_word l.here ≡ true → ends_word more ≡ true)
     → cut between (put_together front ++ more) ≡ lexemes_of front ++ cut between more
-read_cut text front rest more cuts leaves ended =
-    let all : lexemes text ≡ lexemes_of front ++ lexemes_of rest = sym (spaced_are_lexemes text) ∙ ap lexemes_of cuts ∙ lexemes_of-append front rest in
-    let h : AreCutOff text (lexemes_of front ++ lexemes_of rest) = subst (AreCutOff text) all (cuts_within (length text) text (omega arith)) in
-    let f = front_of (lexemes_of front) (lexemes_of rest) text more h leaves ended in
-    let both : front ++ rest ≡ f.ps ++ f.later = sym cuts ∙ ap (spaced_as text) all ∙ f.splits in
+read_cut text front rest more cuts leaves kept =
+    let all : lexemes text ≡ lexemes_of front ++ lexemes_of rest =
+    sym (spaced_are_lexemes text) ∙ ap lexemes_of cuts ∙ lexemes_of-append front rest in
+    let h : AreCutOff text (lexemes_of front ++ lexemes_of rest) =
+    subst (AreCutOff text) all (cuts_within (length text) text (omega arith)) in
+    let f = front_of (lexemes_of front) (lexemes_of rest) text h leaves in
+    let both : front ++ rest ≡ f.ps ++ spaced_as f.here (lexemes_of rest) = sym cuts ∙ ap (spaced_as text) all ∙ f.splits in
     let count : length front ≡ length f.ps = sym (same_count front) ∙ ap length (sym f.same) ∙ same_count f.ps in
-    let is : front ≡ f.ps = same_front front rest f.ps f.later both count in
-    ap (λ (l : List Spaced). cut between (put_together l ++ more)) is ∙ f.cuts
+    let is : front ≡ f.ps = same_front front rest f.ps (spaced_as f.here (lexemes_of rest)) both count in
+    let left : rest ≡ spaced_as f.here (lexemes_of rest) =
+    sym (drop-append_seam front rest) ∙ ap (λ (l : List Spaced). drop (length front) l) both
+    ∙ ap (λ (k : ℕ). drop k (f.ps ++ spaced_as f.here (lexemes_of rest))) count
+    ∙ drop-append_seam f.ps (spaced_as f.here (lexemes_of rest)) in
+    ap (λ (l : List Spaced). cut between (put_together l ++ more)) is
+    ∙ f.cuts more (kept (record { here = f.here; left = f.left; splits = left }))
 
 -- ---- what was read
 
@@ -221,21 +242,31 @@ Finishes r bytes = json_reading_after r (cut between bytes) ≡ Some finished
 abbrev AfterValue : List Bracket → Type 0
 AfterValue bs = Finishes (after_value_in (reverse bs)) (closers bs)
 
-array_finishes : (bs : List Bracket) (n : Expected) → closes_array n ≡ true → AfterValue bs → Finishes (before (reverse (Array ∷ bs)) n) (closers (Array ∷ bs))
-array_finishes bs n e h =
-    ap (json_reading_after (before (reverse (Array ∷ bs)) n)) (cut-sign 93 (closers bs) refl)
-    ∙ ap (λ (l : List Bracket). json_reading_after (before l n) ((93 ∷ []) ∷ cut between (closers bs))) (reversed Array bs)
-    ∙ stepped (before (reverse bs ++ Array ∷ []) n) (after_value_in (reverse bs)) (93 ∷ []) (cut between (closers bs))
-    (ap (λ b. cond b (Some (after_value_in (take (length (reverse bs ++ Array ∷ []) - 1) (reverse bs ++ Array ∷ [])))) None) e ∙ close_step (reverse bs) Array)
+-- a list is ended where its closing bracket may stand
+closed : (b : Bracket) (bs : List Bracket) (closes : Bool) → closes ≡ true
+    → cond closes (Some (after_value_in (take (length (reverse bs ++ b ∷ []) - 1) (reverse bs ++ b ∷ [])))) None
+    ≡ Some (after_value_in (reverse bs))
+closed b bs closes e =
+    ap (λ c. cond c (Some (after_value_in (take (length (reverse bs ++ b ∷ []) - 1) (reverse bs ++ b ∷ [])))) None) e
+    ∙ close_step (reverse bs) b
+
+-- its closing bracket leads on to what finishes the lists around it
+bracket_finishes : (b : Bracket) (sign : ℕ) (bs : List Bracket) (n : Expected) → class sign ≡ operator
+    → json_step (before (reverse bs ++ b ∷ []) n) (sign ∷ []) ≡ Some (after_value_in (reverse bs)) → AfterValue bs
+    → Finishes (before (reverse (b ∷ bs)) n) (sign ∷ closers bs)
+bracket_finishes b sign bs n is step h =
+    ap (json_reading_after (before (reverse (b ∷ bs)) n)) (cut-sign sign (closers bs) is)
+    ∙ ap (λ (l : List Bracket). json_reading_after (before l n) ((sign ∷ []) ∷ cut between (closers bs))) (reversed b bs)
+    ∙ stepped (before (reverse bs ++ b ∷ []) n) (after_value_in (reverse bs)) (sign ∷ []) (cut between (closers bs)) step
     ∙ h
 
-object_finishes : (bs : List Bracket) (n : Expected) → closes_object n ≡ true → AfterValue bs → Finishes (before (reverse (Object ∷ bs)) n) (closers (Object ∷ bs))
-object_finishes bs n e h =
-    ap (json_reading_after (before (reverse (Object ∷ bs)) n)) (cut-sign 125 (closers bs) refl)
-    ∙ ap (λ (l : List Bracket). json_reading_after (before l n) ((125 ∷ []) ∷ cut between (closers bs))) (reversed Object bs)
-    ∙ stepped (before (reverse bs ++ Object ∷ []) n) (after_value_in (reverse bs)) (125 ∷ []) (cut between (closers bs))
-    (ap (λ b. cond b (Some (after_value_in (take (length (reverse bs ++ Object ∷ []) - 1) (reverse bs ++ Object ∷ [])))) None) e ∙ close_step (reverse bs) Object)
-    ∙ h
+array_finishes : (bs : List Bracket) (n : Expected) → closes_array n ≡ true → AfterValue bs
+    → Finishes (before (reverse (Array ∷ bs)) n) (closers (Array ∷ bs))
+array_finishes bs n e h = bracket_finishes Array 93 bs n refl (closed Array bs (closes_array n) e) h
+
+object_finishes : (bs : List Bracket) (n : Expected) → closes_object n ≡ true → AfterValue bs
+    → Finishes (before (reverse (Object ∷ bs)) n) (closers (Object ∷ bs))
+object_finishes bs n e h = bracket_finishes Object 125 bs n refl (closed Object bs (closes_object n) e) h
 
 after_first : (bs : List Bracket) → after_value_in (reverse bs) ≡ before (reverse bs) (next.after_value (first bs))
 after_first bs = ap (λ (o : Option Bracket). before (reverse bs) (next.after_value o)) (innermost_first bs)
@@ -287,7 +318,8 @@ finishes : (bs : List Bracket) (n : Expected) → Fits bs n → (bytes : List �
 unfolding cut
 finishes bs want.Value fits = (34 ∷ 34 ∷ closers bs, value_finishes bs)
 finishes [] want.ValueOrBracket fits = absurd fits
-finishes (Array ∷ bs) want.ValueOrBracket fits = (closers (Array ∷ bs), array_finishes bs want.ValueOrBracket refl (after_value_finishes bs))
+finishes (Array ∷ bs) want.ValueOrBracket fits =
+    (closers (Array ∷ bs), array_finishes bs want.ValueOrBracket refl (after_value_finishes bs))
 finishes (Object ∷ bs) want.ValueOrBracket fits = absurd fits
 finishes bs want.Key fits = (34 ∷ 34 ∷ 58 ∷ 34 ∷ 34 ∷ closers bs, key_finishes bs)
 finishes [] want.KeyOrBrace fits = absurd fits
@@ -295,7 +327,8 @@ finishes (Array ∷ bs) want.KeyOrBrace fits = absurd fits
 finishes (Object ∷ bs) want.KeyOrBrace fits = (closers (Object ∷ bs), object_finishes bs want.KeyOrBrace refl (after_value_finishes bs))
 finishes bs want.Colon fits = (58 ∷ 34 ∷ 34 ∷ closers bs, colon_finishes bs)
 finishes [] want.CommaOrBracket fits = absurd fits
-finishes (Array ∷ bs) want.CommaOrBracket fits = (closers (Array ∷ bs), array_finishes bs want.CommaOrBracket refl (after_value_finishes bs))
+finishes (Array ∷ bs) want.CommaOrBracket fits =
+    (closers (Array ∷ bs), array_finishes bs want.CommaOrBracket refl (after_value_finishes bs))
 finishes (Object ∷ bs) want.CommaOrBracket fits = absurd fits
 finishes [] want.CommaOrBrace fits = absurd fits
 finishes (Array ∷ bs) want.CommaOrBrace fits = absurd fits
@@ -315,8 +348,9 @@ begins text rest reading gap reached is_gap =
     let obs = reading.open_brackets in
     let end = finishes (reverse obs) reading.next good.0 in
     let more : List ℕ = gap ++ (32 ∷ end.0) in
-    let bytes : (put_together front ++ gap) ++ (32 ∷ end.0) ≡ put_together front ++ more = append_assoc (put_together front) gap (32 ∷ end.0) in
-    let cuts = read_cut text front rest more reached.cut leaves (gap_ends gap (32 ∷ end.0) is_gap refl) in
+    let bytes : (put_together front ++ gap) ++ (32 ∷ end.0) ≡ put_together front ++ more =
+    append_assoc (put_together front) gap (32 ∷ end.0) in
+    let cuts = read_cut text front rest more reached.cut leaves (λ l e. gap_ends gap (32 ∷ end.0) is_gap refl) in
     let tail : cut between more ≡ cut between end.0 = cut-gap gap (32 ∷ end.0) is_gap ∙ cut-space 32 end.0 refl in
     let start : reading ≡ before (reverse (reverse obs)) reading.next =
     ap (λ (l : List Bracket). before l reading.next) (sym (reverse-reverse obs)) in
@@ -333,24 +367,41 @@ gap_of : (ps : List Spaced) (q : Spaced) (qs : List Spaced) → AreGaps (ps ++ q
 gap_of [] q qs h = h.0
 gap_of (p ∷ ps) q qs h = gap_of ps q qs h.1
 
+-- around the lexeme where a text stops
+module _ (text : List ℕ) (offset : ℕ) (e : Expected) (stop : StopsAtLexeme text offset e) where
+  abbrev bytes_before : List ℕ
+  bytes_before = put_together stop.reached.front ++ stop.found.gap
+
+  abbrev bytes_after : List ℕ
+  bytes_after = put_together stop.later ++ (texts_joined text).0
+
+  text_parts : text ≡ bytes_before ++ (stop.found.lexeme ++ bytes_after)
+  text_parts =
+      let front = stop.reached.front in
+      let found = stop.found in
+      let later = found.lexeme ++ put_together stop.later in
+      let joined = texts_joined text in
+      joined.2
+      ∙ ap (λ (l : List Spaced). put_together l ++ joined.0) stop.reached.cut
+      ∙ ap (λ (l : List ℕ). l ++ joined.0)
+      (together-append front (found ∷ stop.later) ∙ sym (append_assoc (put_together front) found.gap later))
+      ∙ append_assoc bytes_before later joined.0
+      ∙ ap (λ (l : List ℕ). bytes_before ++ l) (append_assoc found.lexeme (put_together stop.later) joined.0)
+
+  count_before : offset - stop.within ≡ length bytes_before
+  count_before = omega (arith, stop.place, length-append (put_together stop.reached.front) stop.found.gap)
+
+  gap_before : IsGap stop.found.gap
+  gap_before = gap_of stop.reached.front stop.found stop.later (subst AreGaps stop.reached.cut (gaps_spaces text))
+
 pub fronts_begin : FrontsBeginJson
 fronts_begin text offset e stop =
-    let front = stop.reached.front in
-    let found = stop.found in
-    let joined = texts_joined text in
-    let gaps : AreGaps (front ++ found ∷ stop.later) = subst AreGaps stop.reached.cut (gaps_spaces text) in
-    let whole = put_together front ++ found.gap in
-    let later = found.lexeme ++ put_together stop.later in
-    let split : text ≡ whole ++ (later ++ joined.0) =
-    joined.2
-    ∙ ap (λ (l : List Spaced). put_together l ++ joined.0) stop.reached.cut
-    ∙ ap (λ (l : List ℕ). l ++ joined.0) (together-append front (found ∷ stop.later) ∙ sym (append_assoc (put_together front) found.gap later))
-    ∙ append_assoc whole later joined.0 in
-    let count : offset - stop.within ≡ length whole = omega (arith, stop.place, length-append (put_together front) found.gap) in
-    let before_it : take (offset - stop.within) text ≡ whole =
-    ap (λ (k : ℕ). take k text) count ∙ ap (λ (l : List ℕ). take (length whole) l) split ∙ take-append_seam whole (later ++ joined.0) in
+    let before_it : take (offset - stop.within) text ≡ bytes_before text offset e stop =
+    ap (λ (k : ℕ). take k text) (count_before text offset e stop)
+    ∙ ap (λ (l : List ℕ). take (length (bytes_before text offset e stop)) l) (text_parts text offset e stop)
+    ∙ take-append_seam (bytes_before text offset e stop) (stop.found.lexeme ++ bytes_after text offset e stop) in
     subst BeginsJson (sym before_it)
-    (begins text (found ∷ stop.later) stop.reading found.gap stop.reached (gap_of front found stop.later gaps))
+    (begins text (stop.found ∷ stop.later) stop.reading stop.found.gap stop.reached (gap_before text offset e stop))
 
 pub texts_begin : TextsBeginJson
 texts_begin text offset e stop =
@@ -358,3 +409,104 @@ texts_begin text offset e stop =
     let split : text ≡ put_together stop.reached.front ++ joined.0 =
     joined.2 ∙ ap (λ (l : List Spaced). put_together l ++ joined.0) (stop.reached.cut ∙ append-nil stop.reached.front) in
     subst BeginsJson (sym split) (begins text [] stop.reading joined.0 stop.reached joined.1)
+
+-- ---- in a string
+
+same_quote : (g a b : List ℕ) → ends_word (g ++ 34 ∷ a) ≡ true → ends_word (g ++ 34 ∷ b) ≡ true
+same_quote g a b e = same_start g (34 ∷ []) a b refl e
+
+abbrev first_gap : List Spaced → List ℕ
+first_gap [] = []
+first_gap (p ∷ ps) = p.gap
+
+-- a string of JSON in place of another one begins as that
+kept_word : (found : Spaced) (later : List Spaced) (f rest : List ℕ) → found.lexeme ≡ 34 ∷ f → (l : Left (found ∷ later))
+    → ends_word l.here ≡ true → ends_word (found.gap ++ 34 ∷ rest) ≡ true
+kept_word found later f rest is l e =
+    let c = l.left in
+    let gaps : found.gap ≡ c.0 = ap first_gap (l.splits ∙ first_spaced l.here c.0 found.lexeme c.1 (lexemes_of later) c.2 c.3 c.4) in
+    let here : l.here ≡ c.0 ++ 34 ∷ (f ++ c.1) = c.4 ∙ ap (λ (x : List ℕ). c.0 ++ (x ++ c.1)) is in
+    ap (λ (g : List ℕ). ends_word (g ++ 34 ∷ rest)) gaps ∙ same_quote c.0 (f ++ c.1) rest (sym (ap ends_word here) ∙ e)
+
+begins_string : (text : List ℕ) (found : Spaced) (later : List Spaced) (reading t : JsonReading)
+    (reached : ReachesJson text (found ∷ later) reading) → IsGap found.gap → (f p : List ℕ) → found.lexeme ≡ 34 ∷ f
+    → is_leaf (34 ∷ (p ++ 34 ∷ [])) ≡ true → json_step reading (34 ∷ (p ++ 34 ∷ [])) ≡ Some t
+    → BeginsJson ((put_together reached.front ++ found.gap) ++ 34 ∷ p)
+begins_string text found later reading t reached is_gap f p is leaf step =
+    let front = reached.front in
+    let s = 34 ∷ (p ++ 34 ∷ []) in
+    let leaves = read_leaves (lexemes_of front) first_json_reading reading reached.reads in
+    let good = read_good (lexemes_of front) first_json_reading reading (tt, omega arith) reached.reads in
+    let next_good = step_good (json_sort_of s) reading.open_brackets reading.next s t good step in
+    let end = finishes (reverse t.open_brackets) t.next next_good.0 in
+    let last : List ℕ = 34 ∷ 32 ∷ end.0 in
+    let more : List ℕ = found.gap ++ 34 ∷ (p ++ last) in
+    let bytes : ((put_together front ++ found.gap) ++ 34 ∷ p) ++ last ≡ put_together front ++ more =
+    append_assoc (put_together front ++ found.gap) (34 ∷ p) last ∙ append_assoc (put_together front) found.gap (34 ∷ (p ++ last)) in
+    let cuts = read_cut text front (found ∷ later) more reached.cut leaves (kept_word found later f (p ++ last) is) in
+    let tail : cut between more ≡ s ∷ cut between end.0 =
+    cut-gap found.gap (34 ∷ (p ++ last)) is_gap ∙ leaf_cut p leaf (32 ∷ end.0)
+    ∙ ap (λ (l : List (List ℕ)). s ∷ l) (cut-space 32 end.0 refl) in
+    let start : t ≡ before (reverse (reverse t.open_brackets)) t.next =
+    ap (λ (l : List Bracket). before l t.next) (sym (reverse-reverse t.open_brackets)) in
+    let read : json_reading_after first_json_reading (lexemes (((put_together front ++ found.gap) ++ 34 ∷ p) ++ last)) ≡ Some finished =
+    ap (λ (l : List ℕ). json_reading_after first_json_reading (lexemes l)) bytes
+    ∙ ap (json_reading_after first_json_reading) (cuts ∙ ap (λ (l : List (List ℕ)). lexemes_of front ++ l) tail)
+    ∙ read-append (lexemes_of front) (s ∷ cut between end.0) first_json_reading
+    ∙ ap (option_and_then (λ (u : JsonReading). json_reading_after u (s ∷ cut between end.0))) reached.reads
+    ∙ stepped reading t s (cut between end.0) step
+    ∙ ap (λ (u : JsonReading). json_reading_after u (cut between end.0)) start
+    ∙ end.1 in
+    (last, is_document (((put_together front ++ found.gap) ++ 34 ∷ p) ++ last) finished read refl)
+
+string_step : (r : JsonReading) (s : List ℕ) → is_leaf s ≡ true → expects_string r.next ≡ true → (t : JsonReading) × (keyed r s ≡ Some t)
+string_step r s leaf may = by (is_key r.next) refl
+  where
+    value : (a b : Bool) → (a || b) ≡ true → b ≡ false → a ≡ true
+    value true b e f = refl
+    value false b e f = absurd (true≢false (sym e ∙ f))
+
+    by : (k : Bool) → is_key r.next ≡ k → (t : JsonReading) × (keyed r s ≡ Some t)
+    by true k = (
+      before r.open_brackets want.Colon,
+      λ i. cond (k i) (cond (leaf i) (Some (before r.open_brackets want.Colon)) None) (valued r s),
+    )
+    by false k =
+        let v = value (expects_value r.next) (is_key r.next) may k in (
+          after_value_in r.open_brackets,
+          λ i. cond (k i) (cond (is_leaf s) (Some (before r.open_brackets want.Colon)) None)
+              (cond (v i && leaf i) (Some (after_value_in r.open_brackets)) None),
+        )
+
+quote_first : (s : List ℕ) → head s ≡ 34 → s ≡ 34 ∷ drop 1 s
+quote_first [] e = absurd (omega arith)
+quote_first (x ∷ xs) e = ap (λ y. y ∷ xs) e
+
+quote_alone : is_leaf (34 ∷ []) ≡ false
+unfolding lex content
+quote_alone = bad_leaf (34 ∷ []) [] refl
+
+pub strings_begin : StringsBeginJson
+strings_begin text offset e stop fault opens may =
+    let lexeme = stop.found.lexeme in
+    let bytes = bytes_before text offset e stop in
+    let after = bytes_after text offset e stop in
+    let here : take (offset - stop.within + fault.allowed) text ≡ bytes ++ take fault.allowed lexeme =
+    ap (λ (k : ℕ). take (k + fault.allowed) text) (count_before text offset e stop)
+    ∙ ap (λ (l : List ℕ). take (length bytes + fault.allowed) l) (text_parts text offset e stop)
+    ∙ take-append-add bytes (lexeme ++ after) fault.allowed
+    ∙ ap (λ (l : List ℕ). bytes ++ l) (take-append-le fault.allowed lexeme after fault.longest.within) in
+    subst BeginsJson (sym here) (by fault.allowed fault.longest.closed)
+  where
+    is : stop.found.lexeme ≡ 34 ∷ drop 1 stop.found.lexeme
+    is = quote_first stop.found.lexeme opens
+
+    by : (a : ℕ) → is_closed_at stop.found.lexeme a ≡ true → BeginsJson (bytes_before text offset e stop ++ take a stop.found.lexeme)
+    by zero leaf = absurd (true≢false (sym leaf ∙ quote_alone))
+    by (suc n) leaf =
+        let f = drop 1 stop.found.lexeme in
+        let closed : is_leaf (34 ∷ (take n f ++ 34 ∷ [])) ≡ true = sym (ap (λ (l : List ℕ). is_closed_at l (suc n)) is) ∙ leaf in
+        let step = string_step stop.reading (34 ∷ (take n f ++ 34 ∷ [])) closed may in
+        subst (λ (l : List ℕ). BeginsJson (bytes_before text offset e stop ++ take (suc n) l)) (sym is)
+        (begins_string text stop.found stop.later stop.reading step.0 stop.reached (gap_before text offset e stop) f (take n f) is closed
+        step.1)

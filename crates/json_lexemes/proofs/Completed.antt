@@ -1,5 +1,6 @@
 -- Lexemes that may stand where they do, up to the end of a value, are the tokens of a value.
-use Rattle.std.proofs.Common.{◌≡◌, ◌≢◌, ℕ, suc, ◌+◌, ◌-◌, ◌≤◌, nat_lt, true, false, Bool, cond, ◌&&◌, List, [], ◌∷◌, ◌++◌, length, take, reverse}
+use Rattle.std.proofs.Common.{◌≡◌, ℕ, suc, ◌+◌, ◌-◌, ◌≤◌, nat_lt, true, false, Bool, cond, ◌&&◌, List, [], ◌∷◌}
+use Rattle.std.proofs.Common.{◌++◌, length, take, reverse}
 use Rattle.std.proofs.Common.{get_or, Option, Some, None, option_and_then, IsSome, refl, sym, ap, ◌∙◌, subst, arith, append_assoc}
 use Rattle.std.specs.Prelude.{⊤}
 use Rattle.std.proofs.lemmas.Bool.{false≢true, and_parts, ltb-true}
@@ -19,7 +20,8 @@ use Rattle.json_lexemes.specs.Lexemes.{lexemes}
 use Rattle.json_lexemes.specs.Next as next
 use Rattle.json_lexemes.specs.Next.{expects_value, is_key, closes_array, closes_object}
 use Rattle.json_lexemes.specs.Readings as sort
-use Rattle.json_lexemes.specs.Readings.{JsonReading, JsonSort, before, after_value_in, first_json_reading, innermost_bracket, is_leaf, json_step, passed}
+use Rattle.json_lexemes.specs.Readings.{JsonReading, JsonSort, before, after_value_in, first_json_reading}
+use Rattle.json_lexemes.specs.Readings.{innermost_bracket, is_leaf, json_step, passed}
 use Rattle.json_lexemes.specs.Readings.{json_reading_after, json_sort_of, sort_step}
 use Rattle.json_lexemes.specs.declared.expected.Expected.{Expected}
 use Rattle.json_lexemes.specs.declared.expected.Expected.TheVariants as want
@@ -184,13 +186,15 @@ module _ (obs : List Bracket) (n : Expected) (ls : List Lexeme) (good : IsGood (
   abbrev here : Place
   here = place_in stack n
 
-  opens_array : expects_value n ≡ true → Left (before (obs ++ Array ∷ []) want.ValueOrBracket) ls → Left (before obs n) (token begin_array ∷ ls)
+  opens_array : expects_value n ≡ true → Left (before (obs ++ Array ∷ []) want.ValueOrBracket) ls
+      → Left (before obs n) (token begin_array ∷ ls)
   opens_array e left =
       let h = subst (λ (l : List Bracket). Rests l (punctuate fresh ls)) (pushed obs Array) left in
       let read = array_begins here (value_begins stack n e) ls ∙ ap (λ (l : List Token). begin_array ∷ l) h.2 in
       value_first stack n _ e good.0 (j.array h.0, h.1, read, omega (arith, h.3), h.4)
 
-  opens_object : expects_value n ≡ true → Left (before (obs ++ Object ∷ []) want.KeyOrBrace) ls → Left (before obs n) (token begin_object ∷ ls)
+  opens_object : expects_value n ≡ true → Left (before (obs ++ Object ∷ []) want.KeyOrBrace) ls
+      → Left (before obs n) (token begin_object ∷ ls)
   opens_object e left =
       let h = subst (λ (l : List Bracket). Rests l (punctuate fresh ls)) (pushed obs Object) left in
       let read = object_begins here (value_begins stack n e) ls ∙ ap (λ (l : List Token). begin_object ∷ l) h.2 in
@@ -210,10 +214,12 @@ array_ends : (bs : List Bracket) (n : Expected) (ls : List Lexeme) → closes_ar
     → Completes bs n (punctuate (place_in bs n) (token end_array ∷ ls))
 unfolding punctuate
 array_ends [] want.ValueOrBracket ls e fits le rests = absurd fits
-array_ends (Array ∷ bs) want.ValueOrBracket ls e fits le rests = (no_items, punctuate after_value ls, refl, omega arith, rests Array bs refl)
+array_ends (Array ∷ bs) want.ValueOrBracket ls e fits le rests =
+    (no_items, punctuate after_value ls, refl, omega arith, rests Array bs refl)
 array_ends (Object ∷ bs) want.ValueOrBracket ls e fits le rests = absurd fits
 array_ends [] want.CommaOrBracket ls e fits le rests = absurd fits
-array_ends (Array ∷ bs) want.CommaOrBracket ls e fits le rests = (no_items, punctuate after_value ls, refl, omega arith, rests Array bs refl)
+array_ends (Array ∷ bs) want.CommaOrBracket ls e fits le rests =
+    (no_items, punctuate after_value ls, refl, omega arith, rests Array bs refl)
 array_ends (Object ∷ bs) want.CommaOrBracket ls e fits le rests = absurd fits
 array_ends bs n ls e fits le rests = absurd (false≢true e)
 
@@ -223,10 +229,12 @@ object_ends : (bs : List Bracket) (n : Expected) (ls : List Lexeme) → closes_o
 unfolding punctuate
 object_ends [] want.KeyOrBrace ls e fits le rests = absurd fits
 object_ends (Array ∷ bs) want.KeyOrBrace ls e fits le rests = absurd fits
-object_ends (Object ∷ bs) want.KeyOrBrace ls e fits le rests = (no_members, punctuate after_value ls, refl, omega arith, rests Object bs refl)
+object_ends (Object ∷ bs) want.KeyOrBrace ls e fits le rests =
+    (no_members, punctuate after_value ls, refl, omega arith, rests Object bs refl)
 object_ends [] want.CommaOrBrace ls e fits le rests = absurd fits
 object_ends (Array ∷ bs) want.CommaOrBrace ls e fits le rests = absurd fits
-object_ends (Object ∷ bs) want.CommaOrBrace ls e fits le rests = (no_members, punctuate after_value ls, refl, omega arith, rests Object bs refl)
+object_ends (Object ∷ bs) want.CommaOrBrace ls e fits le rests =
+    (no_members, punctuate after_value ls, refl, omega arith, rests Object bs refl)
 object_ends bs n ls e fits le rests = absurd (false≢true e)
 
 -- a comma, and a colon
@@ -327,7 +335,8 @@ ColonFollows t ls = (t.next ≡ want.Colon → begins_colon ls ≡ true)
 
 module _ (obs : List Bracket) (n : Expected) (good : IsGood (before obs n)) where
   -- a bracket that opens
-  opened_good : (b : Bracket) (m : Expected) → Fits (b ∷ reverse obs) m → nat_lt (length obs) max_depth ≡ true → IsGood (before (obs ++ b ∷ []) m)
+  opened_good : (b : Bracket) (m : Expected) → Fits (b ∷ reverse obs) m → nat_lt (length obs) max_depth ≡ true
+      → IsGood (before (obs ++ b ∷ []) m)
   opened_good b m fits room = (
     subst (λ (l : List Bracket). Fits l m) (sym (pushed obs b)) fits,
     omega (arith, within_max (length obs) room, length-append obs (b ∷ [])),
@@ -367,12 +376,15 @@ pub step_good : (o : JsonSort) (obs : List Bracket) (n : Expected) (s : List ℕ
     → sort_step o (before obs n) s ≡ Some t → IsGood t
 step_good sort.open_array obs n s t good e =
     let a = taken (expects_value n && nat_lt (length obs) max_depth) (before (obs ++ Array ∷ []) want.ValueOrBracket) t e in
-    subst IsGood a.1 (opened_good obs n good Array want.ValueOrBracket tt (and_parts (expects_value n) (nat_lt (length obs) max_depth) a.0).1)
+    let room = (and_parts (expects_value n) (nat_lt (length obs) max_depth) a.0).1 in
+    subst IsGood a.1 (opened_good obs n good Array want.ValueOrBracket tt room)
 step_good sort.open_object obs n s t good e =
     let a = taken (expects_value n && nat_lt (length obs) max_depth) (before (obs ++ Object ∷ []) want.KeyOrBrace) t e in
     subst IsGood a.1 (opened_good obs n good Object want.KeyOrBrace tt (and_parts (expects_value n) (nat_lt (length obs) max_depth) a.0).1)
-step_good sort.close_array obs n s t good e = subst IsGood (taken (closes_array n) (after_value_in (outer obs)) t e).1 (closed_good obs n good)
-step_good sort.close_object obs n s t good e = subst IsGood (taken (closes_object n) (after_value_in (outer obs)) t e).1 (closed_good obs n good)
+step_good sort.close_array obs n s t good e =
+    subst IsGood (taken (closes_array n) (after_value_in (outer obs)) t e).1 (closed_good obs n good)
+step_good sort.close_object obs n s t good e =
+    subst IsGood (taken (closes_object n) (after_value_in (outer obs)) t e).1 (closed_good obs n good)
 step_good sort.comma obs n s t good e = by (next.after_comma n) refl e
   where
     by : (m : Option Expected) → next.after_comma n ≡ m → passed (before obs n) m ≡ Some t → IsGood t
@@ -519,7 +531,8 @@ at_colon sort.string obs s l ls t m e = not_found t e
 at_colon sort.word obs s l ls t m e = not_found t e
 
 -- and none follows a value
-at_value : (o : JsonSort) (obs : List Bracket) (b : Option Bracket) (s : List ℕ) (l : Lexeme) (ls : List Lexeme) (t : JsonReading) → Means o s l
+at_value : (o : JsonSort) (obs : List Bracket) (b : Option Bracket) (s : List ℕ) (l : Lexeme) (ls : List Lexeme)
+    (t : JsonReading) → Means o s l
     → sort_step o (before obs (next.after_value b)) s ≡ Some t → begins_colon (l ∷ ls) ≡ false
 at_value sort.open_array obs b s l ls t m e = ap (λ (x : Lexeme). begins_colon (x ∷ ls)) m
 at_value sort.close_array obs b s l ls t m e = ap (λ (x : Lexeme). begins_colon (x ∷ ls)) m
@@ -541,7 +554,8 @@ one_step r u s ss e = by (json_step r s) refl
     by None f = not_found u (sym (ap (option_and_then (λ (t : JsonReading). json_reading_after t ss)) f) ∙ e)
     by (Some t) f = (t, f, sym (ap (option_and_then (λ (x : JsonReading). json_reading_after x ss)) f) ∙ e)
 
-colon_follows : (t u : JsonReading) (ss : List (List ℕ)) (ls : List Lexeme) → Meet ss ls → json_reading_after t ss ≡ Some u → u.next ≡ want.End
+colon_follows : (t u : JsonReading) (ss : List (List ℕ)) (ls : List Lexeme) → Meet ss ls
+    → json_reading_after t ss ≡ Some u → u.next ≡ want.End
     → ColonFollows t ls
 colon_follows t u [] [] m e end = ((λ is. absurd (no_end (sym is ∙ ap (λ (x : JsonReading). x.next) (Some_inj t u e) ∙ end))), λ o is. refl)
   where
@@ -577,7 +591,8 @@ completes [] (l ∷ ls) m r u good e end = absurd m
 completes (s ∷ ss) [] m r u good e end = absurd m
 completes (s ∷ ss) (l ∷ ls) m r u good e end =
     let first = one_step r u s ss e in
-    let turned = turn r.open_brackets r.next good s ls first.0 (colon_follows first.0 u ss ls m.1 first.2 end) (json_sort_of s) l m.0 first.1 in
+    let turned =
+    turn r.open_brackets r.next good s ls first.0 (colon_follows first.0 u ss ls m.1 first.2 end) (json_sort_of s) l m.0 first.1 in
     turned.1 (completes ss ls m.1 first.0 u turned.0 first.2 end)
 
 -- a text whose lexemes may stand where they do, up to the end of its value, is JSON

@@ -14,9 +14,11 @@ pub mod SpacedLexemes
 mod Spelling
 mod Values
 pub mod Grammar
+mod Content
 mod Reached
 mod Meeting
 mod Completed
 mod Accepted
+mod Closing
 mod Stopped
 mod Begun

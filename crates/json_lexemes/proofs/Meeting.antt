@@ -1,5 +1,6 @@
 -- The lexemes that a text is cut into, beside those that the toolchain reads in it.
-use Rattle.std.proofs.Common.{◌≡◌, ◌≢◌, ℕ, zero, suc, ◌≤◌, true, false, List, [], ◌∷◌, ◌++◌, length, Option, Some, None, is_some, ◌==◌, ◌||◌, cond}
+use Rattle.std.proofs.Common.{◌≡◌, ◌≢◌, ℕ, zero, suc, ◌≤◌, true, false, List, [], ◌∷◌, ◌++◌, length, Option, Some}
+use Rattle.std.proofs.Common.{None, is_some, ◌==◌, ◌||◌, cond}
 use Rattle.std.proofs.Common.{option_and_then, refl, sym, ap, ◌∙◌, subst, arith, append-nil, append_assoc, length-append}
 use Rattle.std.specs.Prelude.{⊤}
 use Rattle.std.proofs.lemmas.Bool.{true≢false, ne_eqb, or_parts}
@@ -176,7 +177,8 @@ unfolding lex
 string_read f rest leaf =
     let c = leaf_content f leaf in
     let w = whole_string f c.0 c.1 in
-    let more : w.front ++ (w.rest ++ rest) ≡ f ++ rest = sym (append_assoc w.front w.rest rest) ∙ ap (λ (l : List ℕ). l ++ rest) (sym w.is) in
+    let more : w.front ++ (w.rest ++ rest) ≡ f ++ rest =
+    sym (append_assoc w.front w.rest rest) ∙ ap (λ (l : List ℕ). l ++ rest) (sym w.is) in
     let read : lex between (34 ∷ (f ++ rest)) ≡ token (string c.0) ∷ lex between (w.rest ++ rest) =
     ap (λ (l : List ℕ). lex between (34 ∷ l)) (sym more) ∙ w.lexed (w.rest ++ rest) in
     (c.0, cc)

@@ -11,10 +11,12 @@ use Rattle.json_lexemes.specs.Faults.{StopsAtEnd, StopsAtLexeme, StopsBeingJson}
 use Rattle.json_lexemes.specs.Lexemes.{lexemes}
 use Rattle.json_lexemes.specs.Readings.{JsonReading, first_json_reading, json_step, json_reading_after, json_sort_of, JsonSort}
 use Rattle.json_lexemes.specs.Readings.{open_array, close_array, open_object, close_object, comma, colon, string, word}
-use Rattle.json_lexemes.specs.SpacedLexemes.{Spaced, after_gap, after_lexeme, first_spaces, lexemes_of, put_together, spaced_as, spaced_lexemes}
+use Rattle.json_lexemes.specs.SpacedLexemes.{Spaced, after_gap, after_lexeme, first_spaces, lexemes_of, put_together}
+use Rattle.json_lexemes.specs.SpacedLexemes.{spaced_as, spaced_lexemes}
 use Rattle.json_lexemes.specs.declared.expected.Expected.{Expected}
 use Rattle.json_lexemes.specs.declared.expected.Expected.TheVariants as want
 use Rattle.json_lexemes.specs.declared.fault.Stop.{Stop}
+use Rattle.json_lexemes.proofs.Content.{string_within}
 use Rattle.json_lexemes.proofs.SpacedLexemes.{texts_joined}
 
 -- ---- lexemes one after the other
@@ -58,7 +60,7 @@ fault_within colon r s d e h = omega (arith, h.0)
 fault_within string r s d e h = by (cases_Bool (expects_string r.next))
   where
     by : (expects_string r.next ≡ true) ⊎ (expects_string r.next ≡ false) → d ≤ length s
-    by (inl may) = (h.inside may).0
+    by (inl may) = string_within s d e (h.inside may)
     by (inr not) = omega (arith, (h.other not).0)
 fault_within word r s d e h = omega (arith, h.0, front_within (begins_value r s) s)
 

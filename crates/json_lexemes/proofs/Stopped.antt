@@ -35,7 +35,8 @@ none_goes_on text offset e stop other later same = no_document other not
   where
     stopped : json_reading_after first_json_reading (lexemes other) ≡ None
     stopped =
-        ap (json_reading_after first_json_reading) same ∙ read-append (lexemes_of stop.reached.front) (stop.found.lexeme ∷ later) first_json_reading
+        ap (json_reading_after first_json_reading) same
+        ∙ read-append (lexemes_of stop.reached.front) (stop.found.lexeme ∷ later) first_json_reading
         ∙ ap (option_and_then (λ (t : JsonReading). json_reading_after t (stop.found.lexeme ∷ later))) stop.reached.reads
         ∙ ap (option_and_then (λ (t : JsonReading). json_reading_after t later)) stop.stops
 
@@ -43,7 +44,8 @@ none_goes_on text offset e stop other later same = no_document other not
     not whole = not_found whole.0 (sym stopped ∙ whole.1)
 
 -- all lexemes of a text that was read to its end
-pub all_read : (text : List ℕ) (reading : JsonReading) → ReachesJson text [] reading → json_reading_after first_json_reading (lexemes text) ≡ Some reading
+pub all_read : (text : List ℕ) (reading : JsonReading) → ReachesJson text [] reading
+    → json_reading_after first_json_reading (lexemes text) ≡ Some reading
 all_read text reading reached =
     let same : lexemes text ≡ lexemes_of reached.front =
     sym (spaced_are_lexemes text) ∙ ap lexemes_of reached.cut ∙ ap lexemes_of (append-nil reached.front) in

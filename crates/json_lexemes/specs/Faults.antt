@@ -1,5 +1,5 @@
 -- Where a text stops being JSON, and what was expected there.
-use Rattle.std.specs.Prelude.{◌≡◌, ◌≢◌, ◌⊎◌, ℕ, ◌+◌, ◌≤◌, ◌==◌, Bool, true, false, cond, ◌&&◌, ◌||◌, List, [], ◌∷◌, ◌++◌, length, take}
+use Rattle.std.specs.Prelude.{◌≡◌, ◌≢◌, ◌⊎◌, ℕ, ◌+◌, ◌==◌, Bool, true, false, cond, ◌&&◌, ◌||◌, List, [], ◌∷◌, ◌++◌, length, take}
 use Rattle.std.specs.Prelude.{Some, None}
 use Rattle.std.specs.Char.{is_ascii_alphanumeric}
 use Rattle.std.specs.List.{prefix_len}
@@ -8,9 +8,11 @@ use Rattle.text_places.specs.Places.{IsPlace}
 use Rattle.text_places.specs.declared.place.Place.{Place}
 use Rattle.json.specs.Ascii as ascii
 use Rattle.json_lexemes.specs.Next.{after_value, expects_value, is_key}
-use Rattle.json_lexemes.specs.Readings.{JsonReading, first_json_reading, innermost_bracket, is_leaf, json_step, json_reading_after, JsonSort, json_sort_of}
+use Rattle.json_lexemes.specs.Readings.{JsonReading, first_json_reading, innermost_bracket, is_leaf, json_step}
+use Rattle.json_lexemes.specs.Readings.{json_reading_after, JsonSort, json_sort_of}
 use Rattle.json_lexemes.specs.Readings.{open_array, close_array, open_object, close_object, comma, colon, string, word}
 use Rattle.json_lexemes.specs.SpacedLexemes.{Spaced, lexemes_of, put_together, spaced_lexemes}
+use Rattle.json_lexemes.specs.Strings.{IsStringFault}
 use Rattle.json_lexemes.specs.declared.expected.Expected.{Expected}
 use Rattle.json_lexemes.specs.declared.expected.Expected.TheVariants as want
 
@@ -26,10 +28,6 @@ plain_front s = take (prefix_len is_plain s) s
 abbrev pub begins_value : JsonReading → List ℕ → Bool
 begins_value r s = expects_value r.next && is_leaf (plain_front s)
 
--- what is expected in a string
-abbrev pub IsInString : Expected → Type 0
-IsInString e = (e ≡ want.Quote) ⊎ (e ≡ want.Escape) ⊎ (e ≡ want.Pair) ⊎ (e ≡ want.Control)
-
 -- what was expected in place of a bracket that opens
 abbrev pub expected_for_bracket : JsonReading → Expected
 expected_for_bracket r = cond (expects_value r.next) want.LessNesting r.next
@@ -38,12 +36,7 @@ expected_for_bracket r = cond (expects_value r.next) want.LessNesting r.next
 abbrev pub expects_string : Expected → Bool
 expects_string n = expects_value n || is_key n
 
--- what was expected in or in place of a string
-pub record IsExpectedForString (r : JsonReading) (e : Expected) : Type 0 where
-  pub inside : expects_string r.next ≡ true → IsInString e
-  pub other : expects_string r.next ≡ false → e ≡ r.next
-
--- what was expected where a lexeme of this sort may not stand
+-- What was expected where a lexeme of this sort may not stand, at its beginning.
 abbrev pub IsExpectedBy : JsonSort → JsonReading → Expected → Type 0
 IsExpectedBy open_array r e = e ≡ expected_for_bracket r
 IsExpectedBy close_array r e = e ≡ r.next
@@ -51,16 +44,12 @@ IsExpectedBy open_object r e = e ≡ expected_for_bracket r
 IsExpectedBy close_object r e = e ≡ r.next
 IsExpectedBy comma r e = e ≡ r.next
 IsExpectedBy colon r e = e ≡ r.next
-IsExpectedBy string r e = IsExpectedForString r e
+IsExpectedBy string r e = e ≡ r.next
 IsExpectedBy word r e = e ≡ r.next
 
 -- ---- how far into a lexeme the text is JSON, and what was expected there
 
--- so far into a string
-abbrev pub IsStringFault : List ℕ → ℕ → Expected → Type 0
-IsStringFault s d e = (d ≤ length s) × IsInString e
-
--- in a string where one may come, else at its beginning
+-- where a string stops being one of JSON, if one may come, else at its beginning
 pub record IsFaultInString (r : JsonReading) (s : List ℕ) (d : ℕ) (e : Expected) : Type 0 where
   pub inside : expects_string r.next ≡ true → IsStringFault s d e
   pub other : expects_string r.next ≡ false → (d ≡ 0) × (e ≡ r.next)

@@ -1,13 +1,16 @@
 -- What holds of the lexemes of a text.
-use Rattle.std.specs.Prelude.{◌≡◌, ◌≢◌, ◌↔◌, ℕ, ◌-◌, List, [], ◌∷◌, ◌++◌, take, Some, None, IsSome, All}
+use Rattle.std.specs.Prelude.{◌≡◌, ◌≢◌, ◌↔◌, ℕ, ◌+◌, ◌-◌, true, List, [], ◌∷◌, ◌++◌, take, Some, None, IsSome, All}
+use Rattle.json.specs.Ascii as ascii
 use Rattle.json.specs.Json.{Json}
+use Rattle.json.specs.Word.{head}
 use Rattle.json_validity.specs.Document.{document}
 use Rattle.json_lexemes.specs.Lexemes.{lexemes}
 use Rattle.json_lexemes.specs.Spaced.{IsGap, IsSpacedJson}
 use Rattle.json_lexemes.specs.SpacedLexemes.{AreGaps, lexemes_of, put_together, spaced_lexemes}
-use Rattle.json_lexemes.specs.Faults.{StopsAtEnd, StopsAtLexeme}
+use Rattle.json_lexemes.specs.Faults.{StopsAtEnd, StopsAtLexeme, expects_string}
 use Rattle.json_lexemes.specs.Grammar.{SpellValue}
 use Rattle.json_lexemes.specs.Readings.{JsonReading, first_json_reading, json_reading_after}
+use Rattle.json_lexemes.specs.Strings.{IsStringFault}
 use Rattle.json_lexemes.specs.declared.expected.Expected.{Expected}
 use Rattle.json_lexemes.specs.declared.expected.Expected.TheVariants as want
 
@@ -56,7 +59,15 @@ BeginsJson bytes = (rest : List ℕ) × IsSome (document (bytes ++ rest))
 
 -- such are the bytes before the lexeme where a text stops being JSON
 abbrev pub FrontsBeginJson : Type 0
-FrontsBeginJson = (text : List ℕ) (offset : ℕ) (e : Expected) (stop : StopsAtLexeme text offset e) → BeginsJson (take (offset - stop.within) text)
+FrontsBeginJson = (text : List ℕ) (offset : ℕ) (e : Expected) (stop : StopsAtLexeme text offset e)
+    → BeginsJson (take (offset - stop.within) text)
+
+-- in a string that may come, so are those up to where a quote closes a string of JSON
+abbrev pub StringsBeginJson : Type 0
+StringsBeginJson =
+    (text : List ℕ) (offset : ℕ) (e : Expected) (stop : StopsAtLexeme text offset e)
+    (fault : IsStringFault stop.found.lexeme stop.within e) → head stop.found.lexeme ≡ ascii.quote
+    → expects_string stop.reading.next ≡ true → BeginsJson (take (offset - stop.within + fault.allowed) text)
 
 -- and all bytes of a text that stops at its end
 abbrev pub TextsBeginJson : Type 0
@@ -65,6 +76,11 @@ TextsBeginJson = (text : List ℕ) (offset : ℕ) (e : Expected) → StopsAtEnd 
 -- a text that stops at its end is no JSON
 abbrev pub EndsTooSoon : Type 0
 EndsTooSoon = (text : List ℕ) (offset : ℕ) (e : Expected) → StopsAtEnd text offset e → document text ≡ None
+
+-- a string stops being one of JSON at one place, and there is one thing that was expected
+abbrev pub StringsStopOnce : Type 0
+StringsStopOnce =
+    (s : List ℕ) (d other : ℕ) (e f : Expected) → IsStringFault s d e → IsStringFault s other f → (d ≡ other) × (e ≡ f)
 
 -- the lexemes of a text that is a value spell a value
 abbrev pub LexemesSpellValues : Type 0

@@ -10,4 +10,5 @@ pub mod Expected
 pub mod Next
 pub mod Readings
 pub mod Steps
+pub mod Strings
 pub mod Faults

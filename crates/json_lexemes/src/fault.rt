@@ -3,10 +3,13 @@ ghost use Rattle.std.specs.Prelude.{◌≡◌, ◌+◌, ◌^◌, ◌<◌, ◌≤
 ghost use Rattle.std.specs.Str.{IsUtf8};
 ghost use Rattle.json_validity.specs.Document.{document};
 ghost use Rattle.text_places.specs.Places.{IsPlace, IsPlaceWithin};
-ghost use Rattle.json_lexemes.specs.Faults.{IsEndOfUtf8, IsExpectedBy, IsFaultBy, IsFaultInWord, IsStopFrom, IsStringFault};
+ghost use Rattle.json.specs.Ascii as ascii;
+ghost use Rattle.json.specs.Word.{head};
+ghost use Rattle.json_lexemes.specs.Faults.{IsEndOfUtf8, IsExpectedBy, IsFaultBy, IsFaultInWord, IsStopFrom};
 ghost use Rattle.json_lexemes.specs.Faults.{NamesJsonStop, StopsBeingJson};
 ghost use Rattle.json_lexemes.specs.Readings.{json_sort_of};
 ghost use Rattle.json_lexemes.specs.Steps.{json_reading_of};
+ghost use Rattle.json_lexemes.specs.Strings.{IsStringFault};
 ghost use Rattle.json_lexemes.specs.View.{IsNamed, text_of};
 
 use crate::cut::spaces_end;
@@ -47,24 +50,22 @@ struct Stop<'t> {
 /// its closing quote is missing.
 fn stop_in_string(text: &str, offset: usize) -> Stop<'_>
     requires { offset + length text.now < 2 ^ 64 }
-    ensures { IsStopFrom offset result.offset (λ within. IsStringFault text.now within result.expected) }
+    ensures { head text.now ≡ ascii.quote
+        → IsStopFrom offset result.offset (λ within. IsStringFault text.now within result.expected) }
 {
-    match refused_part(text) {
-        Some(part) => Stop {
-            offset: offset.saturating_add(part.offset),
-            expected: part.expected,
-            found: Some(Lexeme::Word(part.text)),
-            opened: if part.expected == Expected::Quote {
-                Some(offset)
-            } else {
-                None
-            },
+    let part = refused_part(text);
+    Stop {
+        offset: offset.saturating_add(part.offset),
+        expected: part.expected,
+        found: if part.text.is_empty() {
+            None
+        } else {
+            Some(Lexeme::Word(part.text))
         },
-        None => Stop {
-            offset: offset.saturating_add(text.len()),
-            expected: Expected::Quote,
-            found: None,
-            opened: Some(offset),
+        opened: if part.expected == Expected::Quote {
+            Some(offset)
+        } else {
+            None
         },
     }
 }
@@ -115,8 +116,9 @@ fn stop_at<'t>(
 ) -> Result<Stop<'t>, AllocError>
     requires { offset + length (text_of lexeme) < 2 ^ 64 }
     ensures { IsNamed lexeme.entry → IsExpectedBy (json_sort_of (text_of lexeme.entry)) (json_reading_of reading.old) expected
-        → IfOk result (λ stop. IsStopFrom offset stop.offset
-        (λ within. IsFaultBy (json_sort_of (text_of lexeme.entry)) (json_reading_of reading.old) (text_of lexeme.entry) within stop.expected)) }
+        → IfOk result (λ stop. IsStopFrom offset stop.offset (λ within.
+        IsFaultBy (json_sort_of (text_of lexeme.entry)) (json_reading_of reading.old) (text_of lexeme.entry) within
+        stop.expected)) }
 {
     match lexeme {
         Lexeme::String(text) if reading.expects_string() => Ok(stop_in_string(text, offset)),

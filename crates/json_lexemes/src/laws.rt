@@ -1,4 +1,5 @@
-ghost use Rattle.json_lexemes.specs.Laws.{EndsTooSoon, FrontsBeginJson, NoneGoesOn, TextsBeginJson, WholeTextsAreJson};
+ghost use Rattle.json_lexemes.specs.Laws.{EndsTooSoon, FrontsBeginJson, NoneGoesOn, StringsStopOnce, TextsBeginJson};
+ghost use Rattle.json_lexemes.specs.Laws.{StringsBeginJson, WholeTextsAreJson};
 ghost use Rattle.json_lexemes.specs.Laws.{GapsAreSpaces, SpacedAreLexemes, TextsAreJoined};
 ghost use Rattle.json_lexemes.specs.Laws.{GapsKeepReadings, LexemesAreNotEmpty, LexemesSpellValues, TextsAreSpacedLexemes};
 
@@ -29,13 +30,17 @@ pub fn law_grammar()
     ensures { LexemesSpellValues }
 {}
 
-/// A text is JSON exactly where each of its lexemes may stand where it does, and its end comes after its value. So it is none
-/// where it stops at a lexeme or at its end, as `fault_of` has it, and neither is any other text with the same lexemes up to
-/// that one. The bytes before that lexeme begin a text that is JSON, or all bytes do where it stops at its end.
+/// A text is JSON exactly where each of its lexemes may stand where it does, and its end comes after its value. So it is
+/// none where it stops at a lexeme or at its end, as `fault_of` has it, and neither is any other text with the same lexemes
+/// up to that one. The bytes before that lexeme begin a text that is JSON, or all bytes do where it stops at its end. In a
+/// string it stops at one place, and one thing was expected there. The bytes before that place begin a text that is JSON
+/// too, but for a backslash that the text ends with.
 pub fn law_stops()
     ensures whole { WholeTextsAreJson }
     ensures lexeme { NoneGoesOn }
     ensures end { EndsTooSoon }
     ensures front { FrontsBeginJson }
     ensures all { TextsBeginJson }
+    ensures string { StringsStopOnce }
+    ensures inside { StringsBeginJson }
 {}

@@ -2,7 +2,7 @@
 ghost use Rattle.std.specs.Prelude.{◌≡◌, Some, None, cond, length, IfOk};
 ghost use Rattle.std.specs.List.{prefix_len};
 ghost use Rattle.std.specs.Str.{IsCharBoundary};
-ghost use Rattle.json_lexemes.specs.Faults.{IsExpectedBy, IsExpectedForString, IsInString, begins_value, expected_for_bracket};
+ghost use Rattle.json_lexemes.specs.Faults.{IsExpectedBy, begins_value, expected_for_bracket};
 ghost use Rattle.json_lexemes.specs.Faults.{expects_string, is_plain, plain_front};
 ghost use Rattle.json_lexemes.specs.Next.{after_colon, after_comma, after_value, closes_array, closes_object, is_key, expects_value};
 ghost use Rattle.json_lexemes.specs.Readings as spec;
@@ -11,7 +11,6 @@ ghost use Rattle.json_lexemes.specs.View.{IsNamed, text_of};
 
 use crate::expected::Expected;
 use crate::lexeme::Lexeme;
-use crate::string::refused_part;
 use json::{Scratch, is_valid};
 use json_validity::MAX_DEPTH;
 use std::alloc::{AllocError, Global};
@@ -130,16 +129,6 @@ fn is_leaf(text: &str, scratch: &mut Scratch<Global>) -> Result<bool, AllocError
     is_valid(text, scratch)
 }
 
-/// What was expected in a string that JSON does not have.
-fn expected_in(string: &str) -> Expected
-    ensures { IsInString result }
-{
-    match refused_part(string) {
-        Some(part) => part.expected,
-        None => Expected::Quote,
-    }
-}
-
 /// The lexemes that were read so far: the brackets that they left open, and what is to come next.
 #[derive(Drop)]
 pub(crate) struct Reading {
@@ -177,8 +166,8 @@ impl Reading {
         }
     }
 
-    fn open(&mut self, open: Open, next: Expected) -> Result<Option<Expected>, AllocError>
-        ensures { IfOk result (λ stopped. Stepped (json_reading_of self.old) (spec.opened (json_reading_of self.old) open.bracket next)
+    fn open(&mut self, opening: Open, next: Expected) -> Result<Option<Expected>, AllocError>
+        ensures { IfOk result (λ stopped. Stepped (json_reading_of self.old) (spec.opened (json_reading_of self.old) opening.bracket next)
             (λ e. e ≡ expected_for_bracket (json_reading_of self.old)) stopped (json_reading_of self.new)) }
     {
         if !is_value(self.next) {
@@ -187,7 +176,7 @@ impl Reading {
         if self.open.len() >= MAX_DEPTH {
             return Ok(Some(Expected::LessNesting));
         }
-        self.open.push(open)?;
+        self.open.push(opening)?;
         self.next = next;
         Ok(None)
     }
@@ -251,19 +240,20 @@ impl Reading {
     /// Takes a string, as a key or a value.
     fn string(&mut self, text: &str) -> Result<Option<Expected>, AllocError>
         ensures { IfOk result (λ stopped. Stepped (json_reading_of self.old) (spec.keyed (json_reading_of self.old) text.now)
-            (IsExpectedForString (json_reading_of self.old)) stopped (json_reading_of self.new)) }
+            (λ e. e ≡ self.old.next) stopped (json_reading_of self.new)) }
     {
-        let next = if is_key(self.next) {
+        let expected = self.next;
+        let next = if is_key(expected) {
             Expected::Colon
-        } else if is_value(self.next) {
+        } else if is_value(expected) {
             after_value(self.innermost())
         } else {
-            return Ok(Some(self.next));
+            return Ok(Some(expected));
         };
         Ok(if self.take(text, next)? {
             None
         } else {
-            Some(expected_in(text))
+            Some(expected)
         })
     }
 
@@ -291,7 +281,7 @@ impl Reading {
         }
     }
 
-    /// Takes one lexeme, which begins at this offset. Where it may not stand here, what was expected is given.
+    /// Takes one lexeme, which begins at this offset. Where it may not stand here, what was expected in its place is given.
     ///
     /// `AllocError` where memory is refused.
     pub fn step(

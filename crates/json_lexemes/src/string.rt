@@ -1,8 +1,167 @@
 //! What JSON does not allow in a string.
-ghost use Rattle.std.specs.Prelude.{◌≡◌, ◌≤◌, Some, None, length, IfSome};
-ghost use Rattle.json_lexemes.specs.Faults.{IsInString};
+ghost use Rattle.std.specs.Prelude.{◌≡◌, ℕ, ◌+◌, ◌≤◌, ◌∷◌, length, is_some, MatchOption};
+ghost use Rattle.std.specs.Char.{digit_value};
+ghost use Rattle.json.specs.Ascii as ascii;
+ghost use Rattle.json.specs.Text.{after_backslash, after_high, after_u, is_high_surrogate, is_low_surrogate};
+ghost use Rattle.json.specs.Text.{short_escape};
+ghost use Rattle.json.specs.Word.{head};
+ghost use Rattle.json_lexemes.specs.Strings.{HasNoPart, IsLongestClosed, IsStringPart, IsStringFault, NeverCloses, Reads};
+ghost use Rattle.json_lexemes.specs.Strings.{expected_for_escape, expected_in_string, first_unit, is_lone_backslash};
 
 use crate::expected::Expected;
+
+/// The value of a digit, or at least 16 where it is not hexadecimal.
+fn digit(byte: u8) -> u32
+    ensures { result ≡ digit_value byte }
+{
+    match byte {
+        b'0'..=b'9' => (byte - b'0') as u32,
+        b'A'..=b'Z' => (byte - b'A') as u32 + 10,
+        b'a'..=b'z' => (byte - b'a') as u32 + 10,
+        _ => 36,
+    }
+}
+
+/// The code unit that four hexadecimal digits spell, if these bytes begin with them.
+fn code_unit(bytes: &[u8]) -> Option<u32>
+    ensures { result ≡ first_unit bytes.now }
+{
+    if bytes.len() < 4 {
+        return None;
+    }
+    let (a, b, c, d) = (
+        digit(bytes[0]),
+        digit(bytes[1]),
+        digit(bytes[2]),
+        digit(bytes[3]),
+    );
+    if (a < 16) & (b < 16) & (c < 16) & (d < 16) {
+        Some(a * 4096 + b * 256 + c * 16 + d)
+    } else {
+        None
+    }
+}
+
+/// Whether this code unit begins a surrogate pair.
+fn is_high(unit: u32) -> bool
+    ensures { result ≡ is_high_surrogate unit }
+{
+    0xd800 <= unit && unit < 0xdc00
+}
+
+/// Whether this code unit ends a surrogate pair.
+fn is_low(unit: u32) -> bool
+    ensures { result ≡ is_low_surrogate unit }
+{
+    0xdc00 <= unit && unit < 0xe000
+}
+
+/// How many bytes the escape has that is the second half of a surrogate pair. `None` where these bytes begin with none.
+fn second_half(bytes: &[u8]) -> Option<usize>
+    ensures { (high : ℕ)
+        → MatchOption result (NeverCloses (after_high high) bytes.now) (Reads (after_high high) bytes.now) }
+{
+    let (first, rest) = bytes.split_first()?;
+    let (second, digits) = rest.split_first()?;
+    let unit = code_unit(digits)?;
+    if (*first == b'\\') & (*second == b'u') & is_low(unit) {
+        Some(6)
+    } else {
+        None
+    }
+}
+
+/// How many bytes an escape by number has after its `\u`, or a surrogate pair. `None` where JSON does not allow what
+/// comes there.
+fn number(bytes: &[u8]) -> Option<usize>
+    ensures { MatchOption result (NeverCloses after_u bytes.now) (Reads after_u bytes.now) }
+{
+    let unit = code_unit(bytes)?;
+    if is_high(unit) {
+        return Some(4 + second_half(&bytes[4..])?);
+    }
+    if is_low(unit) {
+        return None;
+    }
+    Some(4)
+}
+
+/// Whether a backslash and this byte are an escape, other than one by number.
+fn is_short(byte: u8) -> bool
+    ensures { result ≡ is_some (short_escape byte) }
+{
+    matches!(byte, b'"' | b'\\' | b'/' | b'b' | b'f' | b'n' | b'r' | b't')
+}
+
+/// How many bytes an escape has after its backslash. `None` where JSON does not allow what comes there.
+fn escape(bytes: &[u8]) -> Option<usize>
+    ensures { MatchOption result (NeverCloses after_backslash bytes.now) (Reads after_backslash bytes.now) }
+{
+    let (first, rest) = bytes.split_first()?;
+    if *first == b'u' {
+        return Some(1 + number(rest)?);
+    }
+    if is_short(*first) { Some(1) } else { None }
+}
+
+/// How many bytes the part of a string has that comes first: a byte that stands for itself, an escape, or a surrogate
+/// pair of two escapes. `None` at a quote, and where JSON does not allow what comes there.
+fn first_part(bytes: &[u8]) -> Option<usize>
+    ensures { MatchOption result (HasNoPart bytes.now) (IsStringPart bytes.now) }
+{
+    let (first, rest) = bytes.split_first()?;
+    match *first {
+        b'\\' => Some(1 + escape(rest)?),
+        b'"' => None,
+        0..=0x1f => None,
+        _ => Some(1),
+    }
+}
+
+/// How many bytes the parts have together with which these begin, in a string.
+fn parts(bytes: &[u8]) -> usize
+    ensures { IsLongestClosed (ascii.quote ∷ bytes.now) (1 + result) }
+{
+    let mut len = 0;
+    while let Some(part) = first_part(&bytes[len..]) {
+        len += part;
+    }
+    len
+}
+
+/// How many bytes of a string, spelled with its quotes, come before what JSON does not allow.
+fn allowed_len(bytes: &[u8]) -> usize
+    ensures within { result ≤ length bytes.now }
+    ensures longest { head bytes.now ≡ ascii.quote → IsLongestClosed bytes.now result }
+{
+    match bytes.split_first() {
+        Some((_, content)) => 1 + parts(content),
+        None => 0,
+    }
+}
+
+/// What was expected in place of an escape, of which this follows the backslash.
+fn expected_for_escape(bytes: &[u8]) -> Expected
+    ensures { result ≡ expected_for_escape bytes.now }
+{
+    match bytes.split_first() {
+        None => Expected::Quote,
+        Some((b'u', digits)) if code_unit(digits).is_some() => Expected::Pair,
+        Some(_) => Expected::Escape,
+    }
+}
+
+/// What was expected in a string in place of this.
+fn expected_in(bytes: &[u8]) -> Expected
+    ensures { result ≡ expected_in_string bytes.now }
+{
+    match bytes.split_first() {
+        Some((b'\\', escape)) => expected_for_escape(escape),
+        Some((b'\n' | b'\r', _)) => Expected::Quote,
+        Some((byte, _)) if *byte < 0x20 => Expected::Control,
+        _ => Expected::Quote,
+    }
+}
 
 /// How many hexadecimal digits an escape by number has, of the four that it is to have.
 fn digits(escape: &[u8]) -> usize {
@@ -14,69 +173,6 @@ fn digits(escape: &[u8]) -> usize {
         count = count.saturating_add(1);
     }
     count
-}
-
-/// Whether an escape begins a surrogate pair.
-fn is_high(escape: &[u8]) -> bool {
-    matches!(escape.get(2), Some(b'd' | b'D'))
-        && matches!(escape.get(3), Some(b'8' | b'9' | b'a' | b'b' | b'A' | b'B'))
-}
-
-/// Whether an escape ends a surrogate pair.
-fn is_low(escape: &[u8]) -> bool {
-    matches!(escape.get(2), Some(b'd' | b'D'))
-        && matches!(
-            escape.get(3),
-            Some(b'c' | b'd' | b'e' | b'f' | b'C' | b'D' | b'E' | b'F')
-        )
-}
-
-/// Whether these bytes begin with an escape that ends a surrogate pair.
-fn begins_with_low(bytes: &[u8]) -> bool {
-    bytes.starts_with(b"\\u") && digits(bytes) == 4 && is_low(bytes)
-}
-
-/// A part of a string: a byte, an escape, or a surrogate pair of two escapes.
-#[derive(Clone, Copy, Drop)]
-struct StringPart {
-    len: usize,
-    /// What was expected in its place, if JSON does not allow it.
-    expected: Option<Expected>,
-}
-
-fn allowed(len: usize) -> StringPart
-    ensures { result.expected ≡ None }
-{
-    StringPart {
-        len,
-        expected: None,
-    }
-}
-
-fn refused(len: usize, expected: Expected) -> StringPart
-    ensures { result.expected ≡ Some expected }
-{
-    StringPart {
-        len,
-        expected: Some(expected),
-    }
-}
-
-/// The escape by number with which these bytes begin, or the surrogate pair.
-fn number(bytes: &[u8]) -> StringPart
-    ensures { IfSome result.expected IsInString }
-{
-    let digits = digits(bytes);
-    if digits < 4 {
-        return refused(digits.saturating_add(2), Expected::Escape);
-    }
-    if is_high(bytes) && begins_with_low(bytes.get(6..).unwrap_or(&[])) {
-        return allowed(12);
-    }
-    if is_high(bytes) || is_low(bytes) {
-        return refused(6, Expected::Pair);
-    }
-    allowed(6)
 }
 
 /// How many bytes the backslash at the beginning has, with the character after it.
@@ -91,50 +187,52 @@ fn escape_len(bytes: &[u8]) -> usize {
     len
 }
 
-/// The part with which these bytes begin.
-fn first_part(bytes: &[u8]) -> StringPart
-    ensures { IfSome result.expected IsInString }
-{
+/// How many bytes a message shows of what JSON does not allow: an escape with its digits or its character, or one byte.
+/// None at the end, also after a backslash.
+fn refused_len(bytes: &[u8]) -> usize {
     match (bytes.first(), bytes.get(1)) {
-        (Some(b'\\'), Some(b'u')) => number(bytes),
-        (Some(b'\\'), Some(b'"' | b'\\' | b'/' | b'b' | b'f' | b'n' | b'r' | b't')) => allowed(2),
-        (Some(b'\\'), Some(_)) => refused(escape_len(bytes), Expected::Escape),
-        (Some(b'\n' | b'\r'), _) => refused(1, Expected::Quote),
-        (Some(byte), _) if *byte < 0x20 => refused(1, Expected::Control),
-        _ => allowed(1),
+        (None, _) | (Some(b'\\'), None) => 0,
+        (Some(b'\\'), Some(b'u')) => digits(bytes).saturating_add(2),
+        (Some(b'\\'), Some(_)) => escape_len(bytes),
+        (Some(_), _) => 1,
     }
 }
 
-/// A part of a string that JSON does not allow.
+/// Whether this is a backslash and the end.
+fn is_lone_backslash(bytes: &[u8]) -> bool
+    ensures { result ≡ is_lone_backslash bytes.now }
+{
+    matches!(bytes, [b'\\'])
+}
+
+/// Where a string stops being one of JSON.
 #[derive(Clone, Copy, Drop)]
 pub(crate) struct RefusedPart<'s> {
-    /// Where it begins in the string, in bytes.
+    /// How many bytes come before that.
     pub offset: usize,
-    /// What was expected in its place. Of the end of a line: the quote that ends the string.
+    /// What was expected there. At the end of a line, and at the end: the quote that ends the string.
     pub expected: Expected,
-    /// How it is spelled.
+    /// How that is spelled which comes there. Empty at the end.
     pub text: &'s str,
 }
 
-/// The first part of a string, spelled with its quotes, that JSON does not allow: an escape, half of a surrogate pair, the end of a
-/// line, or another control character.
-pub(crate) fn refused_part(string: &str) -> Option<RefusedPart<'_>>
-    ensures { IfSome result (λ part. (part.offset ≤ length string.now) × IsInString part.expected) }
+/// The first part of a string, spelled with its quotes, that JSON does not allow: an escape, half of a surrogate pair,
+/// the end of a line, or another control character. Where it has none, its end.
+pub(crate) fn refused_part(string: &str) -> RefusedPart<'_>
+    ensures { head string.now ≡ ascii.quote → IsStringFault string.now result.offset result.expected }
 {
     let bytes = string.as_bytes();
-    let mut next = 1;
-    for offset in 1..bytes.len() {
-        if offset == next {
-            let part = first_part(&bytes[offset..]);
-            next = offset.saturating_add(part.len);
-            if let Some(expected) = part.expected {
-                return Some(RefusedPart {
-                    offset,
-                    expected,
-                    text: string.get(offset..next).unwrap_or(""),
-                });
-            }
-        }
+    let allowed = allowed_len(bytes);
+    let rest = &bytes[allowed..];
+    let offset = if is_lone_backslash(rest) {
+        bytes.len()
+    } else {
+        allowed
+    };
+    let end = offset.saturating_add(refused_len(rest));
+    RefusedPart {
+        offset,
+        expected: expected_in(rest),
+        text: string.get(offset..end).unwrap_or(""),
     }
-    None
 }

@@ -12,11 +12,13 @@ pub keeps_limit : (limit : ℕ) (bytes old new : List ℕ) (count : ℕ) → new
 keeps_limit limit bytes old new count put within counted =
     record { past = ap (drop limit) put ∙ past_bytes limit bytes old within; counted = omega arith }
 
-pub limit_of_all : (limit : ℕ) (bytes old new : List ℕ) (count : ℕ) → PutsAll limit bytes old new count → KeepsLimit limit old new count
+pub limit_of_all : (limit : ℕ) (bytes old new : List ℕ) (count : ℕ) → PutsAll limit bytes old new count
+    → KeepsLimit limit old new count
 limit_of_all limit bytes old new count all =
     keeps_limit limit bytes old new count all.puts.in_place all.within (omega (arith, all.puts.counted))
 
-pub limit_of_some : (limit : ℕ) (bytes old new : List ℕ) (count : ℕ) → PutsToLimit limit bytes old new count → KeepsLimit limit old new count
+pub limit_of_some : (limit : ℕ) (bytes old new : List ℕ) (count : ℕ) → PutsToLimit limit bytes old new count
+    → KeepsLimit limit old new count
 limit_of_some limit bytes old new count some =
     keeps_limit limit (take limit bytes) old new count some.puts.in_place (omega (arith, length-take limit bytes))
     (omega (arith, some.puts.counted))

@@ -3,6 +3,7 @@ ghost use Rattle.std.specs.Prelude.{◌≡◌, ⊤};
 ghost use Rattle.std.specs.IoError.{error_kind};
 ghost use Rattle.std.specs.declared.io.ErrorKind.TheVariants.{Other};
 ghost use Rattle.prettyless_model.specs.Options.{options_at};
+ghost use Rattle.prettyless_printer.specs.Linear.{BoundedByTable};
 ghost use Rattle.prettyless_doc.specs.DocTree.{tree_of};
 ghost use Rattle.prettyless_doc.specs.Rendering.{CountsVisits, RendersDoc, RendersDocInto};
 
@@ -41,18 +42,47 @@ impl<'a, T: DocPtr<'a>> Doc<'a, T> {
         ensures { RendersDoc options (tree_of T.tree self.now) (W.document_errors out.new)
             (W.lender out.old) (W.lender out.new) (W.bytes out.old) (W.bytes out.new) (W.failures out.old) (W.failures out.new) result }
     {
-        self.render_raw_counted_with(alloc, options, out, &mut Visits::default())
+        self.render_raw_observed_with(alloc, options, out, &mut Visits::default())
     }
 
     /// Renders to a sink as `render_raw_with` does, and adds to `visits` how many nodes the printer and its probes visit,
-    /// also where it fails.
+    /// also where it fails. Take it to see what a render costs: it takes no more time or memory than that render.
+    ///
+    /// The counts have the bounds of `render_raw_counted_with`, but that of two visits a node.
+    ///
+    /// ```
+    /// let (options, mut visits) = (RenderOptions::new(80), Visits::default());
+    /// doc.render_raw_observed_with(alloc, options, &mut FmtWrite::new(&mut text), &mut visits)?; // `text` grew by the layout
+    /// ```
+    pub fn render_raw_observed_with<W: Render>(
+        &self,
+        alloc: Global,
+        options: RenderOptions,
+        out: &mut W,
+        visits: &mut Visits,
+    ) -> Result<(), RenderError<W::Error>>
+        ensures rendered { RendersDoc options (tree_of T.tree self.now) (W.document_errors out.new)
+            (W.lender out.old) (W.lender out.new) (W.bytes out.old) (W.bytes out.new) (W.failures out.old) (W.failures out.new) result }
+        ensures counts { CountsVisits options (tree_of T.tree self.now) visits.old visits.new result }
+    {
+        render::render(alloc, self, options, out, visits)
+    }
+
+    /// Renders to a sink as `render_raw_with` does, and adds to `visits` how many nodes the printer and its probes visit,
+    /// also where it fails. Take it for few visits, and `render_raw_observed_with` to see what the other calls cost.
+    ///
+    /// A document of at most 1,048,576 nodes is first stored in a table, where a node counts in each place that it has.
+    /// Over that a probe reads what has no choice by column or nesting in two visits. Most documents take two to four
+    /// times as long so. A larger one is rendered as by the other calls, and so is one whose table is refused memory, or
+    /// at a width of 2^32 or more.
     ///
     /// In a document with no line suffix the printer visits each node at most once, also where a trial is rejected.
     /// Each group and partial union starts at most one probe, which visits each node at most once.
     ///
     /// Take one that has no choice by column or nesting either, and fewer than 2^32 - 1 nodes. At a width below 2^32
-    /// probes visit at most sixteen nodes for each of its nodes, and a thousand. That holds where no table was refused
-    /// memory, which `visits` counts too, and where the printer's count stays below the greatest `u64`.
+    /// probes visit at most sixteen nodes for each of its nodes, and a thousand. Of at most 1,048,576 nodes they visit
+    /// two for each. That holds where no table was refused memory, which `visits` counts too, and where the printer's
+    /// count stays below the greatest `u64`.
     ///
     /// After `Ok` the printer has visited at least the nodes that the layout lays. Its probes have visited at least one
     /// node for each probe that the layout needs. Both hold up to the greatest `u64`. In this lower bound a rejected
@@ -72,8 +102,9 @@ impl<'a, T: DocPtr<'a>> Doc<'a, T> {
         ensures rendered { RendersDoc options (tree_of T.tree self.now) (W.document_errors out.new)
             (W.lender out.old) (W.lender out.new) (W.bytes out.old) (W.bytes out.new) (W.failures out.old) (W.failures out.new) result }
         ensures counts { CountsVisits options (tree_of T.tree self.now) visits.old visits.new result }
+        ensures twice { BoundedByTable options.width (tree_of T.tree self.now) visits.old visits.new }
     {
-        render::render(alloc, self, options, out, visits)
+        render::render_over_table(alloc, self, options, out, visits)
     }
 
     /// Renders to a sink at this width, in columns, as `render_raw_with` does by `RenderOptions::new(width)`: with the same

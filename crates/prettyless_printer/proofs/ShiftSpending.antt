@@ -83,6 +83,10 @@ all_over {w} {v} {p} {limit} linear k room =
 pub few_more : (n : ℕ) (v w : Visits) → IsLinearBound 2 0 n v w → IsLinearBound 16 1000 n v w
 few_more n v w h room = omega (arith, h room)
 
+-- nothing was visited before them
+pub few_still : (factor more n : ℕ) {v w : Visits} (x : Visits) → w ≡ v → IsLinearBound factor more n w x → IsLinearBound factor more n v x
+few_still factor more n {v} {w} x same few = subst (λ (y : Visits). IsLinearBound factor more n y x) same few
+
 queue_none : {N : Type 0} (f : N → Tree) (xs : List N) → trees f xs ≡ [] → sum_by (λ n. size (f n)) xs ≡ 0
 queue_none {N} f [] h = refl
 queue_none {N} f (x ∷ xs) h = absurd (omega (arith, ap length h))

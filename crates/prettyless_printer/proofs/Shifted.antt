@@ -19,7 +19,7 @@ use Rattle.prettyless_printer.specs.Linear.{IsLinearBound, IsLinear, IsLinearSta
 use Rattle.prettyless_printer.specs.Open.{Held, all_held, seconds}
 use Rattle.prettyless_printer.specs.Spending.{Left, Spends, left, rule_of}
 use Rattle.prettyless_printer.specs.Runs.{RunReaches}
-use Rattle.prettyless_printer.specs.Renders.{Begins, Renders, RunsToEnd}
+use Rattle.prettyless_printer.specs.Renders.{Begins, EndsAnywhere, Renders, RunsToEnd}
 use Rattle.prettyless_printer.proofs.Renders.{renders}
 use Rattle.prettyless_printer.proofs.Visits.{rise_same}
 use Rattle.prettyless_printer.proofs.Shifts.{continues_same}
@@ -66,6 +66,13 @@ comes_still a us p {b} {c} {s} {t} {v} {w} sink visits buffer comes =
     (subst (λ (x : Seen). RunReaches a us b (point_at p x w)) (sym sink)
     (subst (λ (x : Visits). RunReaches a us b (point_at p s x)) (sym visits) comes))
 
+-- a run to the end from there
+pub ends_still : {A E : Type 0} {fails : E → Type 0} (p : Standing) {s t u : Seen} {v w x : Visits} {r : Result A (RenderError E)} → t ≡ s
+    → w ≡ v → EndsAnywhere fails (point_at p t w) u x r → EndsAnywhere fails (point_at p s v) u x r
+ends_still {A} {E} {fails} p {s} {t} {u} {v} {w} {x} {r} sink visits ends =
+    subst (λ (y : Seen). EndsAnywhere fails (point_at p y v) u x r) sink
+    (subst (λ (y : Visits). EndsAnywhere fails (point_at p t y) u x r) visits ends)
+
 -- a run begins without open trials
 pub comes_first : {N : Type 0} (f : N → Tree) (us : List (OpenTrial N)) (buffer : Seen) (a : Point) → us ≡ []
     → RunReaches a (all_held f us) buffer a
@@ -92,6 +99,10 @@ pub begins_few : {o : RenderOptions} {d : Tree} {p : Standing} (factor more : �
 begins_few {o} {d} {p} factor more v w begins few =
     let same : nodes p.tasks ≡ size d = omega (arith, ap nodes begins.tasks) in
     subst (λ (n : ℕ). IsLinearBound factor more n v w) same few
+
+-- and no more than its
+pub begins_small : {o : RenderOptions} {d : Tree} {p : Standing} (most : ℕ) → Begins o d p → size d ≤ most → nodes p.tasks ≤ most
+begins_small {o} {d} {p} most begins small = omega (arith, ap nodes begins.tasks, small)
 
 -- a run to the end, from before a document, is a render
 pub begun_renders : {A E : Type 0} (fails : E → Type 0) {o : RenderOptions} {d : Tree} {a b : Point} (n : ℕ) (r : Result A (RenderError E))

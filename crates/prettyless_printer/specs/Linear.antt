@@ -32,3 +32,7 @@ pub record IsLinearStart (p : Standing) : Type 0 where
 -- probes visited so many times n nodes at most, and so many more, where the printer's count has room for n
 abbrev pub IsLinearBound : ℕ → ℕ → ℕ → Visits → Visits → Type 0
 IsLinearBound factor more n v w = v.printer + n < 2 ^ 64 - 1 → w.probes ≤ v.probes + (factor * n + more)
+
+-- where a table has all nodes of a document from the first one on, and none was refused memory, probes visit at most two nodes for each
+abbrev pub BoundedByTable : ℕ → Tree → Visits → Visits → Type 0
+BoundedByTable width d v w = IsLinear width d → size d ≤ 1048576 → w.refused ≡ 0 → IsLinearBound 2 0 (size d) v w

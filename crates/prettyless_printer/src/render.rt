@@ -1,10 +1,9 @@
 //! Rendering a document to a sink. This file knows nodes by `Walk` alone, and no turns and no trials.
-ghost use Rattle.std.specs.Prelude.{◌≡◌, IfOk};
-ghost use Rattle.prettyless_model.specs.Tree.{size};
+ghost use Rattle.std.specs.Prelude.{IfOk};
 ghost use Rattle.prettyless_probe.specs.Sums.{IsSummed};
 ghost use Rattle.prettyless_printer.specs.Points.{seen, standing};
 ghost use Rattle.prettyless_printer.specs.Renders.{Begins, Renders};
-ghost use Rattle.prettyless_printer.specs.Linear.{IsLinearBound, IsLinear};
+ghost use Rattle.prettyless_printer.specs.Linear.{BoundedByTable};
 
 use crate::shift::{run_over_table, run_with_shift};
 use prettyless_model::column::Column;
@@ -77,8 +76,8 @@ pub fn render<N: Walk, W: Render>(
 
 /// Renders the document of a node as `render` does, over a table of all of its nodes from the first one on: each probe takes two
 /// visits where no choice by column or nesting stands in what it reads. A document that is rendered so takes two to four times as
-/// long as most documents take without a table. It is rendered without one where memory for that is refused, where it has 2^32 - 1
-/// nodes or more, and at widths of 2^32 columns or more.
+/// long as most documents take without a table. It is rendered as by `render` where memory for the table is refused, where it has
+/// more than 1,048,576 nodes, and at widths of 2^32 columns or more.
 pub fn render_over_table<N: Walk, W: Render>(
     alloc: Global,
     node: N,
@@ -89,8 +88,7 @@ pub fn render_over_table<N: Walk, W: Render>(
     ensures renders { Renders (W.document_errors out.new) options (N.tree node)
         (seen W.bytes W.failures W.lender out.old) (seen W.bytes W.failures W.lender out.new)
         visits.old visits.new result }
-    ensures few { IsLinear options.width (N.tree node) → visits.new.refused ≡ 0
-        → IsLinearBound 2 0 (size (N.tree node)) visits.old visits.new }
+    ensures twice { BoundedByTable options.width (N.tree node) visits.old visits.new }
 {
     match printer_before(alloc, node, options) {
         Ok(mut printer) => {

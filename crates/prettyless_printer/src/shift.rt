@@ -20,7 +20,7 @@ ghost use Rattle.prettyless_printer.specs.Spending.{IsUnended, Spends, left, non
 use crate::answer::RunResult;
 use crate::buffer::Buffer;
 use crate::run::{finish, resume};
-use crate::shift_policy::{ShiftPolicy, can_shift};
+use crate::shift_policy::{ROOM_AT_FIRST, ShiftPolicy, can_shift};
 use crate::trial::{OpenTrial, Trials};
 use prettyless_model::count::one_more;
 use prettyless_probe::walk::Walk;
@@ -191,7 +191,8 @@ pub(crate) fn run_with_shift<N: Walk, W: Render>(
     }
 }
 
-/// Runs to the end over a table, or without one where there is no room for it. A table that is refused memory is counted.
+/// Runs to the end over a table of all nodes, where there are few enough, and else as `run_with_shift` does. Tables that are refused
+/// memory are counted.
 pub(crate) fn run_over_table<N: Walk, W: Render>(
     alloc: Global,
     printer: &mut Printer<N>,
@@ -205,19 +206,29 @@ pub(crate) fn run_over_table<N: Walk, W: Render>(
         (seen W.bytes W.failures W.lender out.new) visits.new result }
     ensures rises { refused.old ≤ refused.new }
     ensures few { IsLinearStart (standing N.tree printer.old) → refused.new ≡ 0 →
+        IsLinearBound 16 1000 (nodes (tasks_of N.tree printer.old)) visits.old visits.new }
+    ensures twice { IsLinearStart (standing N.tree printer.old) → nodes (tasks_of N.tree printer.old) ≤ 1048576 → refused.new ≡ 0 →
         IsLinearBound 2 0 (nodes (tasks_of N.tree printer.old)) visits.old visits.new }
 {
-    let mut trials = Trials::new(alloc);
-    let mut buffer = Buffer::new(alloc);
     if !can_shift(printer.options.width) {
-        return finish(printer, &mut trials, &mut buffer, out, visits);
+        return run_with_shift(alloc, printer, out, visits, refused);
     }
-    match shift(alloc, printer, &trials, &mut buffer, u64::MAX, out, visits) {
+    let trials = Trials::new(alloc);
+    let mut buffer = Buffer::new(alloc);
+    match shift(
+        alloc,
+        printer,
+        &trials,
+        &mut buffer,
+        ROOM_AT_FIRST,
+        out,
+        visits,
+    ) {
         Ok(Some(ended)) => ended,
-        Ok(None) => finish(printer, &mut trials, &mut buffer, out, visits),
+        Ok(None) => run_with_shift(alloc, printer, out, visits, refused),
         Err(_) => {
             *refused = one_more(*refused);
-            finish(printer, &mut trials, &mut buffer, out, visits)
+            run_with_shift(alloc, printer, out, visits, refused)
         }
     }
 }

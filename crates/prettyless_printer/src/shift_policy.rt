@@ -13,6 +13,9 @@ const GRACE: u64 = 1000;
 /// A table may have so many times as many nodes as were visited before it.
 const ROOM: u64 = 4;
 
+/// A table that is made before the first node may have so many. Its cells take 32 MiB at most.
+pub(crate) const ROOM_AT_FIRST: u64 = 1_048_576;
+
 /// Whether a table is of use at a width: its summaries hold below 2^32.
 pub(crate) fn can_shift(width: usize) -> bool
     ensures { IsTrue result ↔ (width < 2 ^ 32) }

@@ -1,16 +1,18 @@
 -- Sums of summaries: a node more, and nodes that are taken off.
 use Rattle.std.proofs.Common.{◌≡◌, ℕ, suc, ◌+◌, ◌-◌, ◌<◌, ◌≤◌, Bool, true, false, List, [], ◌∷◌, ◌++◌, take, drop, get_or, length, refl, ap}
-use Rattle.std.proofs.Common.{sym, ◌∙◌, subst, append_assoc, arith, length-append, IsTrue, if◌then◌else◌}
-use Rattle.std.proofs.lemmas.List.{length-take, get_or-take, get_or_append_left, get_or_push, take-append-drop}
+use Rattle.std.proofs.Common.{◌^◌, sym, ◌∙◌, subst, append_assoc, arith, length-append, length-drop, IsTrue, if◌then◌else◌}
+use Rattle.std.proofs.lemmas.List.{length-take, map-append, nil_from_length, get_or-take, get_or_append_left, get_or_push, take-append-drop}
 use Rattle.prettyless_model.specs.Tree.{Tree, size}
-use Rattle.prettyless_model.specs.Look.{Look, GoesOn, answer_of, look}
+use Rattle.prettyless_model.specs.Look.{Look, Answers, GoesOn, answer_of, look, look_then}
+use Rattle.prettyless_model.specs.declared.column.Column.{Column}
 use Rattle.prettyless_model.specs.declared.mode.Mode.{Mode}
 use Rattle.prettyless_model.specs.declared.mode.Mode.TheVariants.{Break}
-use Rattle.prettyless_model.proofs.Looks.{answer-each, answer-same, answer-then}
-use Rattle.prettyless_summary.specs.Summary.{IsSmall, ReadsLook, Summarizes, ThenReads, look_by}
+use Rattle.prettyless_model.proofs.Looks.{answer-each, answer-then, look-same}
+use Rattle.prettyless_summary.specs.Summary.{IsSmall, ReadsLook, Summarizes, ThenReads, has_summary, look_by}
+use Rattle.prettyless_summary.proofs.Has.{has_one}
 use Rattle.prettyless_summary.specs.declared.summary.Summary.{Summary}
-use Rattle.prettyless_probe.specs.Stack.{Task, make_task, in_break, nodes, stack_of, tasks_fit}
-use Rattle.prettyless_probe.specs.Sums.{AreSums, HaveSum, IsSummed, SumsUp, bottom}
+use Rattle.prettyless_probe.specs.Stack.{Task, make_task, in_break, nodes, stack_of, tasks_fit, tasks_look}
+use Rattle.prettyless_probe.specs.Sums.{AreSums, HaveSum, HaveSummaries, IsSummed, SumsUp, below_run, bottom, combined}
 use Rattle.prettyless_probe.specs.declared.stack.Below.{Below}
 use Rattle.prettyless_probe.specs.declared.stack.Stack.{Stack}
 use Rattle.prettyless_probe.proofs.Sizes.{size_positive}
@@ -23,6 +25,10 @@ pub bottom_all : (n : ℕ) (ts : List Task) → n ≡ length ts → bottom n ts 
 bottom_all n ts e =
     let none : length ts - n ≡ 0 = omega (arith, e) in
     ap (λ (k : ℕ). drop k ts) none
+
+-- no tasks are at the bottom
+pub bottom_none : (n : ℕ) (ts : List Task) → n ≡ 0 → bottom n ts ≡ []
+bottom_none n ts e = nil_from_length (bottom n ts) (omega (arith, length-drop (length ts - n) ts, e))
 
 -- a task on top is not at the bottom
 pub bottom_below : (n : ℕ) (t : Task) (ts : List Task) → n ≤ length ts → bottom n (t ∷ ts) ≡ bottom n ts
@@ -45,59 +51,148 @@ nodes_bottom n ts l =
     let over : List Task = take (length ts - n) ts in
     omega (arith, ap nodes (over_bottom n ts), nodes-append over (bottom n ts), length-nodes over, length-take (length ts - n) ts, l)
 
+-- what is on top of all tasks is none
+pub combined_none : (n : ℕ) (ts : List Task) → n ≡ length ts → combined n ts ≡ []
+combined_none n ts e =
+    let none : length ts - n ≡ 0 = omega (arith, e) in
+    ap (λ (k : ℕ). take k ts) none
+
+-- a task on top is on top of what is left of those below it
+pub combined_more : (n : ℕ) (t : Task) (ts : List Task) → n ≤ length ts → combined n (t ∷ ts) ≡ t ∷ combined n ts
+combined_more n t ts l =
+    let one : length (t ∷ ts) - n ≡ suc (length ts - n) = omega (arith, l) in
+    ap (λ (k : ℕ). take k (t ∷ ts)) one
+
+-- ---- Runs of tasks that have summaries
+
+-- tasks all of whose nodes have summaries are one run
+pub run_all : (ts : List Task) → HaveSummaries ts → below_run ts ≡ []
+run_all [] h = refl
+run_all (t ∷ ts) h = rw (has_one t.tree Break h.0) (run_all ts h.1)
+
+pub run_more : (t : Task) (ts : List Task) → has_summary t.tree Break ≡ true → below_run (t ∷ ts) ≡ below_run ts
+run_more t ts h = rw h refl
+
+pub run_none : (t : Task) (ts : List Task) → has_summary t.tree Break ≡ false → below_run (t ∷ ts) ≡ t ∷ ts
+run_none t ts h = rw h refl
+
+run_less_at : (b : Bool) (t : Task) (ts : List Task) → has_summary t.tree Break ≡ b → length (below_run ts) ≤ length ts →
+    length (below_run (t ∷ ts)) ≤ length (t ∷ ts)
+run_less_at true t ts e l = omega (arith, ap length (run_more t ts e), l)
+run_less_at false t ts e l = omega (arith, ap length (run_none t ts e))
+
+pub run_less : (ts : List Task) → length (below_run ts) ≤ length ts
+run_less [] = omega arith
+run_less (t ∷ ts) = run_less_at (has_summary t.tree Break) t ts refl (run_less ts)
+
+-- nothing is below the run of no tasks
+pub run_of_none : (ts : List Task) → length ts ≡ 0 → length (below_run ts) ≡ 0
+run_of_none ts e = omega (arith, run_less ts, e)
+
+run_stops_at : (b : Bool) (t : Task) (ts : List Task) → has_summary t.tree Break ≡ b → below_run (t ∷ ts) ≡ t ∷ ts → b ≡ false
+run_stops_at true t ts e h = absurd (omega (arith, ap length (run_more t ts e), ap length h, run_less ts))
+run_stops_at false t ts e h = refl
+
+-- tasks that are below the run themselves begin with one that has no summary
+pub run_stops : (t : Task) (ts : List Task) → below_run (t ∷ ts) ≡ t ∷ ts → has_summary t.tree Break ≡ false
+run_stops t ts h = run_stops_at (has_summary t.tree Break) t ts refl h
+
+run_begins_at : (b : Bool) (t : Task) (ts : List Task) → has_summary t.tree Break ≡ b →
+    length (below_run (t ∷ ts)) < length (t ∷ ts) → b ≡ true
+run_begins_at true t ts e l = refl
+run_begins_at false t ts e l = absurd (omega (arith, ap length (run_none t ts e), l))
+
+run_whole_at : (b : Bool) (t : Task) (ts : List Task) → has_summary t.tree Break ≡ b →
+    length (t ∷ ts) ≤ length (below_run (t ∷ ts)) → below_run (t ∷ ts) ≡ t ∷ ts
+run_whole_at true t ts e l = absurd (omega (arith, ap length (run_more t ts e), run_less ts, l))
+run_whole_at false t ts e l = run_none t ts e
+
+-- as many tasks as there are below the run are all that are
+pub run_whole : (ts : List Task) → length ts ≤ length (below_run ts) → below_run ts ≡ ts
+run_whole [] l = refl
+run_whole (t ∷ ts) l = run_whole_at (has_summary t.tree Break) t ts refl l
+
+-- and other tasks begin with one that has
+pub run_begins : (t : Task) (ts : List Task) → length (below_run (t ∷ ts)) < length (t ∷ ts) → has_summary t.tree Break ≡ true
+run_begins t ts l = run_begins_at (has_summary t.tree Break) t ts refl l
+
 -- ---- One sum
 
 -- a sum and how many tasks it leaves
 abbrev pub below : Summary → ℕ → Below
 below s n = record { sum = s; left = n }
 
--- tasks of which all have a sum, without the first
-pub have_sum_below : (t : Task) (ts : List Task) → HaveSum (t ∷ ts) → HaveSum ts
-have_sum_below t ts all = (all.0.1, omega (arith, all.1))
-
 -- of tasks of which nothing is known
-pub sum_nothing : (s : Summary) (n : ℕ) (ts : List Task) → n ≡ length ts → ReadsLook s (λ width c p. GoesOn c p) → (HaveSum ts → ⊥)
-    → SumsUp (below s n) ts
-sum_nothing s n ts e reads unknown = record {
+pub sum_nothing : (s : Summary) (n : ℕ) (t : Task) (ts : List Task) → n ≡ length (t ∷ ts) → ReadsLook s (λ width c p. GoesOn c p)
+    → IsSmall 0 s → (size t.tree < 2 ^ 32 → has_summary t.tree Break ≡ false) → SumsUp (below s n) (t ∷ ts)
+sum_nothing s n t ts e reads small unknown = record {
   left = omega (arith, e);
-  fits = λ w c p l.
-      ap (λ (z : List Task). tasks_fit w (in_break z) c p) (sym (bottom_all n ts e))
-      ∙ sym (ap (λ (x : Look). answer_of x (λ d q. tasks_fit w (in_break (bottom n ts)) d q)) (reads w c p l));
-  whole = λ all. absurd (unknown all);
+  looks = λ w c p l. reads w c p l ∙ sym (ap (λ (z : List Task). tasks_look w (in_break z) c p) (combined_none n (t ∷ ts) e));
+  run = λ few. (e ∙ sym (ap length (run_none t ts (unknown (omega (arith, few))))), omega (arith, small));
 }
+
+-- a look and then nothing
+look-none : (x : Look) → look_then x (λ c p. GoesOn c p) ≡ x
+look-none (Answers b) = refl
+look-none (GoesOn c p) = refl
 
 -- of a task that is known, alone
 pub sum_own : (s : Summary) (n i : ℕ) (m : Mode) (d : Tree) (ts : List Task) → n ≡ length ts → Summarizes s d Break
-    → (HaveSum (make_task i m d ∷ ts) → (n ≡ 0) × IsSmall (size d) s) →
+    → (nodes (make_task i m d ∷ ts) < 2 ^ 32 → (n ≡ length (below_run (make_task i m d ∷ ts))) × IsSmall (size d) s) →
     SumsUp (below s n) (make_task i m d ∷ ts)
-sum_own s n i m d ts e known own = record {
-  left = omega (arith, e);
-  fits = λ w c p l.
-      answer-same (look w d i Break c p) (look_by w s c p) (λ x q. tasks_fit w (in_break ts) x q)
-      (λ x q. tasks_fit w (in_break (bottom n (make_task i m d ∷ ts))) x q) (sym (known i w c p l))
-      (λ x q. ap (λ (z : List Task). tasks_fit w (in_break z) x q)
-      (sym (bottom_below n (make_task i m d) ts (omega (arith, e)) ∙ bottom_all n ts e)));
-  whole = λ all. let w = own all in (w.0, omega (arith, w.1));
-}
+sum_own s n i m d ts e known own =
+    let t : Task = make_task i m d in
+    let alone : combined n (t ∷ ts) ≡ t ∷ [] =
+    combined_more n t ts (omega (arith, e)) ∙ ap (λ (z : List Task). t ∷ z) (combined_none n ts e) in
+    record {
+      left = omega (arith, e);
+      looks = λ w c p l. known i w c p l ∙ sym (look-none (look w d i Break c p))
+          ∙ sym (ap (λ (z : List Task). tasks_look w (in_break z) c p) alone);
+      run = λ few. let h = own few in (h.0, omega (arith, h.1));
+    }
 
 -- of a task that is known, and those below it
 pub sum_then : (s : Summary) {r : Summary} {b : Below} (i : ℕ) (m : Mode) (d : Tree) (ts : List Task) → Summarizes s d Break → SumsUp b ts
-    → ThenReads s b.sum r →
-    (HaveSum (make_task i m d ∷ ts) → IsSmall (nodes ts) b.sum → IsSmall (size d + nodes ts) r)
+    → ThenReads s b.sum r → (size d < 2 ^ 32 → has_summary d Break ≡ true)
+    → (nodes (make_task i m d ∷ ts) < 2 ^ 32 → IsSmall (nodes ts) b.sum → IsSmall (size d + nodes ts) r)
     → SumsUp (below r b.left) (make_task i m d ∷ ts)
-sum_then s {r} {b} i m d ts known under both small = record {
-  left = omega (arith, under.left);
-  fits = λ w c p l.
-      answer-same (look w d i Break c p) (look_by w s c p) (λ x q. tasks_fit w (in_break ts) x q)
-      (λ x q. answer_of (look_by w b.sum x q) (λ y o. tasks_fit w (in_break (bottom b.left ts)) y o)) (sym (known i w c p l))
-      (λ x q. under.fits w x q l)
-      ∙ sym (answer-then (look_by w s c p) (λ x q. look_by w b.sum x q) (λ y o. tasks_fit w (in_break (bottom b.left ts)) y o))
-      ∙ ap (λ (z : Look). answer_of z (λ y o. tasks_fit w (in_break (bottom b.left ts)) y o)) (sym (both w c p l))
-      ∙ answer-each (look_by w r c p) (λ y o. tasks_fit w (in_break (bottom b.left ts)) y o)
-      (λ y o. tasks_fit w (in_break (bottom b.left (make_task i m d ∷ ts))) y o)
-      (λ y o. ap (λ (z : List Task). tasks_fit w (in_break z) y o) (sym (bottom_below b.left (make_task i m d) ts under.left)));
-  whole = λ all. let w = under.whole (have_sum_below (make_task i m d) ts all) in (w.0, small all w.1);
-}
+sum_then s {r} {b} i m d ts known under both has small =
+    let t : Task = make_task i m d in
+    record {
+      left = omega (arith, under.left);
+      looks = λ w c p l. both w c p l
+          ∙ look-same (look_by w s c p) (look w d i Break c p) (look_by w b.sum) (tasks_look w (in_break (combined b.left ts)))
+          (known i w c p l) (λ e q. under.looks w e q l)
+          ∙ sym (ap (λ (z : List Task). tasks_look w (in_break z) c p) (combined_more b.left t ts under.left));
+      run = λ few.
+          let h = under.run (omega (arith, few)) in (
+            h.0 ∙ sym (ap length (run_more t ts (has (omega (arith, few))))),
+            small few h.1,
+          );
+    }
+
+-- of tasks all of whose nodes have summaries it leaves none
+pub sum_whole : {b : Below} {ts : List Task} → SumsUp b ts → HaveSum ts → b.left ≡ 0
+sum_whole {b} {ts} sum all = (sum.run all.1).0 ∙ ap length (run_all ts all.0)
+
+fits-append : (w : ℕ) (ts us : List Task) (c : Column) (p : Bool) →
+    tasks_fit w (ts ++ us) c p ≡ answer_of (tasks_look w ts c p) (λ e q. tasks_fit w us e q)
+fits-append w [] us c p = refl
+fits-append w (t ∷ ts) us c p =
+    answer-each (look w t.tree t.indent t.mode c p) (λ e q. tasks_fit w (ts ++ us) e q)
+    (λ e q. answer_of (tasks_look w ts e q) (λ g r. tasks_fit w us g r)) (λ e q. fits-append w ts us e q)
+    ∙ sym (answer-then (look w t.tree t.indent t.mode c p) (λ e q. tasks_look w ts e q) (λ e q. tasks_fit w us e q))
+
+-- tasks fit the line as what their sum reads does, with the tasks that it leaves
+pub sum_fits : {b : Below} {ts : List Task} → SumsUp b ts → (w : ℕ) (c : Column) (p : Bool) → w < 2 ^ 32 →
+    tasks_fit w (in_break ts) c p ≡ answer_of (look_by w b.sum c p) (λ e q. tasks_fit w (in_break (bottom b.left ts)) e q)
+sum_fits {b} {ts} sum w c p l =
+    let on : List Task = combined b.left ts in
+    let left : List Task = bottom b.left ts in
+    ap (λ (z : List Task). tasks_fit w (in_break z) c p) (over_bottom b.left ts)
+    ∙ ap (λ (z : List Task). tasks_fit w z c p) (map-append (λ (t : Task). make_task t.indent Break t.tree) on left)
+    ∙ fits-append w (in_break on) (in_break left) c p
+    ∙ ap (λ (x : Look). answer_of x (λ e q. tasks_fit w (in_break left) e q)) (sym (sum.looks w c p l))
 
 -- ---- All sums
 

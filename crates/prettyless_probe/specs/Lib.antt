@@ -2,5 +2,6 @@ pub mod View
 pub mod Frames
 pub mod Stack
 pub mod Sums
+pub mod Reads
 pub mod Probing
 pub mod Texts

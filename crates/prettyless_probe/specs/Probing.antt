@@ -2,7 +2,7 @@
 use Rattle.std.specs.Prelude.{◌≡◌, ℕ, ◌+◌, ◌*◌, ◌-◌, ◌^◌, ◌<◌, ◌≤◌, min, max, Bool, true, false, IsTrue, List, [], ◌∷◌, length, Option}
 use Rattle.std.specs.Prelude.{Some, None}
 use Rattle.prettyless_model.specs.Tree.{Tree, Group, PartialUnion, size}
-use Rattle.prettyless_model.specs.Look.{by_mode}
+use Rattle.prettyless_model.specs.Look.{Look, Answers, GoesOn, by_mode}
 use Rattle.prettyless_model.specs.declared.mode.Mode.{Mode}
 use Rattle.prettyless_model.specs.declared.column.Column.{Column}
 use Rattle.prettyless_probe.specs.Stack.{Task, make_task, tasks_fit}
@@ -21,6 +21,11 @@ use Rattle.prettyless_probe.specs.declared.probe.ProbeStep.TheVariants.{Answer, 
 abbrev pub read_of : {N : Type 0} → Option Bool → ProbeStep N
 read_of (Some b) = Answer b
 read_of None = Silent
+
+-- an answer, or none, as a look
+abbrev pub look_by_answer : Option Bool → Column → Bool → Look
+look_by_answer (Some b) c p = Answers b
+look_by_answer None c p = GoesOn c p
 
 -- where this is an answer, x is that answer; else x is what comes, from this column on, of the node that is read next, if
 -- there is one, and of the tasks after it

@@ -1,8 +1,8 @@
 -- Stacks of nodes, seen as tasks.
-use Rattle.std.specs.Prelude.{◌≡◌, ℕ, ◌+◌, ◌≤◌, List, [], ◌∷◌, ◌++◌, map, take, length, Option, Some, None, Bool, vec_capacity}
+use Rattle.std.specs.Prelude.{◌≡◌, ℕ, ◌+◌, ◌≤◌, List, [], ◌∷◌, ◌++◌, map, take, length, Bool, vec_capacity}
 use Rattle.prettyless_model.specs.Tree.{Tree, size}
 use Rattle.prettyless_model.specs.Column.{padding_fits}
-use Rattle.prettyless_model.specs.Look.{answer_of, look}
+use Rattle.prettyless_model.specs.Look.{Look, GoesOn, answer_of, look, look_then}
 use Rattle.prettyless_model.specs.Layout.{Entry, entry}
 use Rattle.prettyless_model.specs.declared.column.Column.{Column}
 use Rattle.prettyless_model.specs.declared.mode.Mode.{Mode}
@@ -71,15 +71,15 @@ abbrev pub tasks_fit : ℕ → List Task → Column → Bool → Bool
 tasks_fit width [] c p = padding_fits width p c
 tasks_fit width (t ∷ ts) c p = answer_of (look width t.tree t.indent t.mode c p) (λ e q. tasks_fit width ts e q)
 
+-- a look at tasks, one after another
+abbrev pub tasks_look : ℕ → List Task → Column → Bool → Look
+tasks_look width [] c p = GoesOn c p
+tasks_look width (t ∷ ts) c p = look_then (look width t.tree t.indent t.mode c p) (λ e q. tasks_look width ts e q)
+
 -- how many nodes tasks have
 abbrev pub nodes : List Task → ℕ
 nodes [] = 0
 nodes (t ∷ ts) = size t.tree + nodes ts
-
--- where this is an answer, x is that answer; where there is none yet, x is y
-abbrev pub AnswersAs : Option Bool → Bool → Bool → Type 0
-AnswersAs (Some b) x y = x ≡ b
-AnswersAs None x y = x ≡ y
 
 -- the trees of nodes
 abbrev pub trees : {N : Type 0} → (N → Tree) → List N → List Tree

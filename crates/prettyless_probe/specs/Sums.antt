@@ -1,16 +1,24 @@
 -- Sums of summaries: what a stack shows a probe from each of its nodes down.
-use Rattle.std.specs.Prelude.{◌≡◌, ℕ, ◌-◌, ◌^◌, ◌<◌, ◌≤◌, Bool, IsTrue, List, [], ◌∷◌, ◌++◌, drop, get_or, length, ⊤, if◌then◌else◌}
+use Rattle.std.specs.Prelude.{◌≡◌, ℕ, ◌-◌, ◌^◌, ◌<◌, ◌≤◌, Bool, IsTrue, List, [], ◌∷◌, ◌++◌, drop, take, get_or, length, ⊤, if◌then◌else◌}
 use Rattle.prettyless_model.specs.Tree.{Tree, size}
-use Rattle.prettyless_model.specs.Look.{answer_of}
-use Rattle.prettyless_model.specs.declared.column.Column.{Column}
-use Rattle.prettyless_summary.specs.Summary.{HasSummaries, IsSmall, look_by}
-use Rattle.prettyless_probe.specs.Stack.{Task, in_break, nodes, stack_of, tasks_fit}
+use Rattle.prettyless_model.specs.declared.mode.Mode.TheVariants.{Break}
+use Rattle.prettyless_summary.specs.Summary.{HasSummaries, IsSmall, ReadsLook, has_summary}
+use Rattle.prettyless_probe.specs.Stack.{Task, in_break, nodes, stack_of, tasks_look}
 use Rattle.prettyless_probe.specs.declared.stack.Below.{Below}
 use Rattle.prettyless_probe.specs.declared.stack.Stack.{Stack}
 
 -- the n tasks at the bottom
 abbrev pub bottom : ℕ → List Task → List Task
 bottom n ts = drop (length ts - n) ts
+
+-- the tasks on top of those, which a sum combines that leaves n
+abbrev pub combined : ℕ → List Task → List Task
+combined n ts = take (length ts - n) ts
+
+-- what is below the run of tasks on top that have summaries in Break
+abbrev pub below_run : List Task → List Task
+below_run [] = []
+below_run (t ∷ ts) = if has_summary t.tree Break then below_run ts else t ∷ ts
 
 -- tasks all of whose nodes have summaries
 abbrev pub HaveSummaries : List Task → Type 0
@@ -21,13 +29,12 @@ HaveSummaries (t ∷ ts) = HasSummaries t.tree × HaveSummaries ts
 abbrev pub HaveSum : List Task → Type 0
 HaveSum ts = HaveSummaries ts × (nodes ts < 2 ^ 32)
 
--- A sum of tasks: in Break they fit the line as what the sum reads does, with the tasks at the bottom that it leaves. It leaves none of
--- tasks that are combined.
+-- A sum of tasks: what it reads is a look at those that it combines, each in Break. Where no number can pass 32 bits, it combines the
+-- run of tasks on top that have summaries.
 pub record SumsUp (b : Below) (ts : List Task) : Type 0 where
   pub left : b.left ≤ length ts
-  pub fits : (width : ℕ) (c : Column) (p : Bool) → width < 2 ^ 32 →
-      tasks_fit width (in_break ts) c p ≡ answer_of (look_by width b.sum c p) (λ e q. tasks_fit width (in_break (bottom b.left ts)) e q)
-  pub whole : HaveSum ts → (b.left ≡ 0) × IsSmall (nodes ts) b.sum
+  pub looks : ReadsLook b.sum (λ width. tasks_look width (in_break (combined b.left ts)))
+  pub run : nodes ts < 2 ^ 32 → (b.left ≡ length (below_run ts)) × IsSmall (nodes ts) b.sum
 
 -- each sum is one of the task at its height and of those below that
 abbrev pub AreSums : List Below → List Task → Type 0

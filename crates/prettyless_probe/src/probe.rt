@@ -2,19 +2,22 @@
 //! It knows nodes by `Walk` alone, and of a printer the commands that it has left. It knows no sink.
 ghost use Rattle.std.specs.Prelude.{◌≡◌, ◌++◌, ◌∷◌, [], IfOk, OnOk, IfSome, MatchOption, List, false, length, true, IsTrue, ◌&&◌};
 ghost use Rattle.std.specs.Prelude.{◌+◌, ◌<◌, ◌≤◌};
-ghost use Rattle.std.specs.Prelude.{if◌then◌else◌};
+ghost use Rattle.std.specs.Prelude.{if◌then◌else◌, ℕ, Bool};
 ghost use Rattle.prettyless_model.specs.Tree.{Tree, WeakLine, size};
 ghost use Rattle.prettyless_model.specs.declared.mode.Mode.TheVariants.{Flat};
 ghost use Rattle.prettyless_model.specs.Column.{commit, nested, padding_fits, prospective, start};
-ghost use Rattle.prettyless_model.specs.Look.{answer_of, by_mode, look, look_text, payload_begins};
+ghost use Rattle.prettyless_model.specs.Look.{Answers, GoesOn, answer_of, by_mode, look, look_text, payload_begins};
 ghost use Rattle.prettyless_model.specs.Layout.{rest_fits};
+ghost use Rattle.prettyless_model.specs.declared.column.Column.{Column};
 ghost use Rattle.prettyless_probe.specs.declared.probe.ProbeLine.{ProbeLine};
 ghost use Rattle.prettyless_probe.specs.declared.probe.ProbeStep.TheVariants.{Answer, Silent, Descend};
 ghost use Rattle.prettyless_probe.specs.declared.probe.Fit.TheVariants.{FitsAsTexts, Fits, Exceeds};
-ghost use Rattle.prettyless_probe.specs.Probing.{Few, ReadsAs, RisesBy, RoomAt, TextsAt, is_fit, nodes_next, read_in, read_of};
+ghost use Rattle.prettyless_probe.specs.Probing.{Few, ReadsAs, RisesBy, RoomAt, TextsAt, is_fit, look_by_answer, nodes_next, read_in, read_of};
+ghost use Rattle.prettyless_probe.specs.Reads.{IsFew, RisesTo, by_sums, probe_reads, reads_all, reads_below, reads_next, reads_on};
 ghost use Rattle.prettyless_probe.specs.Sums.{IsSummed};
-ghost use Rattle.prettyless_probe.specs.Stack.{AnswersAs, IsCursor, Task, follow, in_break, make_task, nodes, stack_of, task, tasks_fit};
+ghost use Rattle.prettyless_probe.specs.Stack.{IsCursor, Task, follow, in_break, make_task, nodes, stack_of, task, tasks_fit};
 ghost use Rattle.prettyless_probe.specs.Stack.{room_of, unread};
+ghost use Rattle.prettyless_summary.specs.Summary.{has_summary};
 ghost use Rattle.prettyless_probe.specs.Texts.{IsTexts, IsTextsIf, tasks_waiting, texts_waiting};
 
 use crate::choice::{by_column, by_nesting, either};
@@ -81,9 +84,8 @@ impl LineState {
     // Reads a text, as `read_content` does.
     #[inline(always)]
     fn read_text(&mut self, width: usize, text: &str) -> bool
-        ensures { (ts : List Task) →
-            answer_of (look_text width (length text.now) text.now self.old.column self.old.pending) (λ c p. tasks_fit width ts c p)
-            ≡ (result && tasks_fit width ts self.new.column self.new.pending) }
+        ensures { look_text width (length text.now) text.now self.old.column self.old.pending
+            ≡ if result then GoesOn self.new.column self.new.pending else Answers false }
     {
         if text.is_empty() {
             return true;
@@ -97,9 +99,8 @@ impl LineState {
 // Reads content: an empty text is nothing, another commits the column. The answer is whether the line stays within the width.
 #[inline(always)]
 fn read_content(width: usize, line: &mut ProbeLine, counted: usize, text: &str) -> bool
-    ensures { (ts : List Task) →
-        answer_of (look_text width counted text.now line.old.column line.old.pending) (λ c p. tasks_fit width ts c p)
-        ≡ (result && tasks_fit width ts line.new.column line.new.pending) }
+    ensures { look_text width counted text.now line.old.column line.old.pending
+        ≡ if result then GoesOn line.new.column line.new.pending else Answers false }
 {
     if text.is_empty() {
         return true;
@@ -135,9 +136,7 @@ fn read_line_end(width: usize, line: &ProbeLine, mode: Mode) -> bool
 // Reads a weak line, which is nothing on a fresh line where no suffix is pending. Its indent does not matter.
 #[inline(always)]
 fn read_weak_line(width: usize, line: &ProbeLine, mode: Mode) -> Option<bool>
-    ensures { (ts : List Task) → AnswersAs result
-        (tasks_fit width (make_task 0 mode WeakLine ∷ ts) line.now.column line.now.pending)
-        (tasks_fit width ts line.now.column line.now.pending) }
+    ensures { look width WeakLine 0 mode line.now.column line.now.pending ≡ look_by_answer result line.now.column line.now.pending }
 {
     if line.column.fresh && !line.pending {
         return None;
@@ -196,7 +195,7 @@ fn branch<N: Copy>(mode: Mode, first: N, second: N) -> N
 
 // Reads one node. The nodes below it are read next: the first is answered, and a second one is now on the stack.
 #[inline(always)]
-#[tactic(auto, using(crate::proofs::Probes::looks))]
+#[tactic(auto, using(crate::proofs::Probes::looks, crate::proofs::Counting::looks_read))]
 pub(crate) fn probe_one<N: Walk>(
     width: usize,
     line: &mut ProbeLine,
@@ -210,6 +209,9 @@ pub(crate) fn probe_one<N: Walk>(
         (stack_of N.tree stack.new ++ ts) line.new.column line.new.pending) }
     ensures smaller { IfOk result (λ a.
         nodes_next N.tree a + nodes (stack_of N.tree stack.new) < size (N.tree node) + nodes (stack_of N.tree stack.old)) }
+    ensures reads { IfOk result (λ a. (sums : Bool) (next : Column → Bool → ℕ) → (sums && has_summary (N.tree node) mode) ≡ false
+        → reads_all sums width (make_task indent mode (N.tree node) ∷ stack_of N.tree stack.old) next line.old.column line.old.pending
+        ≡ 1 + reads_on N.tree sums width a (stack_of N.tree stack.new) next line.new.column line.new.pending) }
     ensures room { OnOk result (room_of stack.old ≤ room_of stack.new) }
 {
     match node.view() {
@@ -280,6 +282,9 @@ fn read_other<N: Walk>(
         (stack_of N.tree stack.new ++ ts) line.new.column line.new.pending) }
     ensures smaller { IfOk result (λ a.
         nodes_next N.tree a + nodes (stack_of N.tree stack.new) < size (N.tree node) + nodes (stack_of N.tree stack.old)) }
+    ensures reads { IfOk result (λ a. (sums : Bool) (next : Column → Bool → ℕ) → (sums && has_summary (N.tree node) mode) ≡ false
+        → reads_all sums width (make_task indent mode (N.tree node) ∷ stack_of N.tree stack.old) next line.old.column line.old.pending
+        ≡ 1 + reads_on N.tree sums width a (stack_of N.tree stack.new) next line.new.column line.new.pending) }
     ensures room { OnOk result (room_of stack.old ≤ room_of stack.new) }
 {
     probe_one(width, line, indent, mode, node, stack)
@@ -333,6 +338,10 @@ fn visit_other<N: Walk>(
     ensures smaller { IfOk result (λ a.
         nodes_next N.tree (read_in stack.new a) + nodes (stack_of N.tree stack.new) < size (N.tree node)
         + nodes (stack_of N.tree stack.old)) }
+    ensures reads { IfOk result (λ a. (next : Column → Bool → ℕ) → reads_all false width
+        (make_task stack.old.here.indent stack.old.here.mode (N.tree node) ∷ stack_of N.tree stack.old) next
+        line.old.column line.old.pending
+        ≡ 1 + reads_on N.tree false width (read_in stack.new a) (stack_of N.tree stack.new) next line.new.column line.new.pending) }
     ensures texts { IfOk result (λ a. IsTrue is_texts.new → IsTrue is_texts.old × ((d : Tree)
         → IsTextsIf d (make_task stack.old.here.indent stack.old.here.mode (N.tree node) ∷ stack_of N.tree stack.old)
         → TextsAt N.tree d (read_in stack.new a) (stack_of N.tree stack.new))) }
@@ -359,6 +368,7 @@ fn visit_other<N: Walk>(
 
 // Reads one node, of the indent and the mode of the topmost frame.
 #[inline(always)]
+#[tactic(auto, using(crate::proofs::Counting::looks_read))]
 fn visit_one<N: Walk>(
     width: usize,
     line: &mut LineState,
@@ -373,6 +383,10 @@ fn visit_one<N: Walk>(
     ensures smaller { IfOk result (λ a.
         nodes_next N.tree (read_in stack.new a) + nodes (stack_of N.tree stack.new) < size (N.tree node)
         + nodes (stack_of N.tree stack.old)) }
+    ensures reads { IfOk result (λ a. (next : Column → Bool → ℕ) → reads_all false width
+        (make_task stack.old.here.indent stack.old.here.mode (N.tree node) ∷ stack_of N.tree stack.old) next
+        line.old.column line.old.pending
+        ≡ 1 + reads_on N.tree false width (read_in stack.new a) (stack_of N.tree stack.new) next line.new.column line.new.pending) }
     ensures texts { IfOk result (λ a. IsTrue is_texts.new → IsTrue is_texts.old × ((d : Tree)
         → IsTextsIf d (make_task stack.old.here.indent stack.old.here.mode (N.tree node) ∷ stack_of N.tree stack.old)
         → TextsAt N.tree d (read_in stack.new a) (stack_of N.tree stack.new))) }
@@ -428,6 +442,11 @@ fn next_unread<N: Walk>(
     ensures left { IfOk result (λ o. IfSome o
         (λ n. nodes (stack_of N.tree stack.old) + nodes (unread N.tree commands.now below.old)
         ≡ size (N.tree n) + (nodes (stack_of N.tree stack.new) + nodes (unread N.tree commands.now below.new)))) }
+    ensures reads { IfOk result (λ o. (width : ℕ) (c : Column) (p : Bool) → reads_all false width (stack_of N.tree stack.old)
+        (reads_below false width false (unread N.tree commands.now below.old)) c p
+        ≡ reads_next o (λ n. reads_all false width
+        (make_task stack.new.here.indent stack.new.here.mode (N.tree n) ∷ stack_of N.tree stack.new)
+        (reads_below false width false (unread N.tree commands.now below.new)) c p)) }
     ensures texts { IfOk result (λ o. (d : Tree) → IsTextsIf d (stack_of N.tree stack.old)
         → MatchOption o (IsTexts d) (λ n. IsTextsIf d
         (make_task stack.new.here.indent stack.new.here.mode (N.tree n) ∷ stack_of N.tree stack.new))) }
@@ -471,7 +490,7 @@ fn found(fits: bool, is_texts: bool) -> Fit
 
 // Visits a node, what is on the stack, and then the printer's commands downwards, up to an answer. Each node is counted in `probes`.
 #[inline(always)]
-#[tactic(auto, using(crate::proofs::Sizes::size_positive))]
+#[tactic(auto, using(crate::proofs::Sizes::size_positive, crate::proofs::Counting::some_read))]
 fn visit_all<N: Walk>(
     width: usize,
     start: ProbeLine,
@@ -493,6 +512,10 @@ fn visit_all<N: Walk>(
     ensures counted { probes.new
         ≤ probes.old + (size (N.tree first.node) + (nodes (stack_of N.tree stack.old) + nodes (unread N.tree commands.now cursor))) }
     ensures asked { OnOk result (RisesBy 1 probes.old probes.new) }
+    ensures reads { OnOk result (RisesTo (reads_all false width (task N.tree first ∷ stack_of N.tree stack.old)
+        (reads_below false width false (unread N.tree commands.now cursor)) start.column start.pending) probes.old probes.new) }
+    ensures reads_at_most { probes.new ≤ probes.old + reads_all false width (task N.tree first ∷ stack_of N.tree stack.old)
+        (reads_below false width false (unread N.tree commands.now cursor)) start.column start.pending }
 {
     let mut line = LineState::at(start);
     let mut below = cursor;
@@ -542,6 +565,12 @@ pub fn probe<N: Walk>(
     ensures counted { probes.new ≤ probes.old + (size (N.tree node) + nodes (stack_of N.tree commands.now)) }
     ensures asked { OnOk result (RisesBy 1 probes.old probes.new) }
     ensures few { Few N.HAS_SUMMARIES width (N.tree node) (stack_of N.tree commands.now) 1 probes.old probes.new }
+    ensures reads { IsFew N.HAS_SUMMARIES width (N.tree node) (stack_of N.tree commands.now) → OnOk result (RisesTo
+        (probe_reads (by_sums N.HAS_SUMMARIES width) width (N.tree node) indent mode (stack_of N.tree commands.now)
+        start.column start.pending) probes.old probes.new) }
+    ensures reads_at_most { IsFew N.HAS_SUMMARIES width (N.tree node) (stack_of N.tree commands.now) → probes.new ≤ probes.old
+        + probe_reads (by_sums N.HAS_SUMMARIES width) width (N.tree node) indent mode (stack_of N.tree commands.now)
+        start.column start.pending }
 {
     stack.clear();
     let first = Command { indent, mode, node };

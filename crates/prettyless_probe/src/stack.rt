@@ -43,11 +43,11 @@ pub struct Cursor {
 }
 
 impl<N: Walk> Stack<N> {
-    ghost use Rattle.std.specs.Prelude.{◌∷◌, ◌++◌, ◌<◌, [], List, length, IsTrue, IsFalse, OnOk, MatchOption, ℕ, ⊤, ◌+◌, take};
+    ghost use Rattle.std.specs.Prelude.{◌∷◌, ◌++◌, ◌<◌, [], List, length, IsTrue, IsFalse, OnOk, MatchOption, ℕ, ⊤, ◌+◌, ◌^◌, take};
     ghost use Rattle.std.specs.Prelude.{if◌then◌else◌};
     ghost use Rattle.prettyless_model.specs.Layout.{next_indent as next_indent_of};
-    ghost use Rattle.prettyless_probe.specs.Stack.{IsCursor, Task, follow, make_task, room_of, stack_of, task, tasks, trees, unread};
-    ghost use Rattle.prettyless_probe.specs.Sums.{AreSums, HaveSum, IsSummed, SumsUp, bottom};
+    ghost use Rattle.prettyless_probe.specs.Stack.{IsCursor, Task, follow, make_task, nodes, room_of, stack_of, task, tasks, trees, unread};
+    ghost use Rattle.prettyless_probe.specs.Sums.{AreSums, HaveSum, IsSummed, SumsUp, below_run, bottom};
 
     /// An empty one. It takes no memory.
     pub fn new(alloc: Global) -> Self
@@ -482,14 +482,17 @@ impl<N: Walk> Stack<N> {
         self.read_here(cursor)
     }
 
-    /// The sum of what is not read yet, where it combines a node at least: so it does where all of that is combined, and there is a node.
+    /// The sum of what is not read yet, where it combines a node at least: so it does where the next node has a summary, unless there are
+    /// too many nodes.
     #[inline]
     pub fn sum_of(&self, cursor: &Cursor) -> Option<Below>
         requires of_this { IsCursor self.now cursor.now }
         requires summed { AreSums self.now.sums.items (unread N.tree self.now cursor.now) }
         ensures { MatchOption result
-            (length (unread N.tree self.now cursor.now) ≤ length self.now.sums.items → HaveSum (unread N.tree self.now cursor.now)
-            → unread N.tree self.now cursor.now ≡ [])
+            (length (unread N.tree self.now cursor.now) ≤ length self.now.sums.items
+            → (HaveSum (unread N.tree self.now cursor.now) → unread N.tree self.now cursor.now ≡ [])
+            × (nodes (unread N.tree self.now cursor.now) < 2 ^ 32
+            → below_run (unread N.tree self.now cursor.now) ≡ unread N.tree self.now cursor.now))
             (λ b. SumsUp b (unread N.tree self.now cursor.now) × (b.left < length (unread N.tree self.now cursor.now))) }
     {
         let height = cursor.nodes;

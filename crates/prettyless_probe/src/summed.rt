@@ -1,10 +1,12 @@
 //! The probe where nodes have summaries: it reads a node that is known by its summary, and what follows by its sum.
 //! It knows nodes by `Walk` alone, and of a printer the commands that it has left.
-ghost use Rattle.std.specs.Prelude.{◌≡◌, ◌++◌, ◌∷◌, IfOk, IsTrue, OnOk, List, [], length, ◌+◌, ◌*◌, ◌^◌, ◌<◌, ◌≤◌};
+ghost use Rattle.std.specs.Prelude.{◌≡◌, ◌++◌, ◌∷◌, IfOk, IsTrue, OnOk, List, [], length, ◌+◌, ◌-◌, ◌*◌, ◌^◌, ◌<◌, ◌≤◌, ℕ, Bool, min, true, false};
 ghost use Rattle.prettyless_model.specs.Tree.{size};
 ghost use Rattle.prettyless_model.specs.Look.{answer_of};
+ghost use Rattle.prettyless_model.specs.declared.column.Column.{Column};
 ghost use Rattle.prettyless_summary.specs.Summary.{HasSummaries, look_by};
 ghost use Rattle.prettyless_probe.specs.Probing.{Few, OneLeft, ReadsAs, RisesBy, nodes_next, pace};
+ghost use Rattle.prettyless_probe.specs.Reads.{RisesTo, read_after, reads_all, reads_below, reads_on};
 ghost use Rattle.prettyless_probe.specs.declared.probe.ProbeStep.{ProbeStep};
 ghost use Rattle.prettyless_probe.specs.Stack.{IsCursor, Task, in_break, make_task, nodes, stack_of, task, tasks_fit, unread};
 ghost use Rattle.prettyless_probe.specs.Sums.{AreSums};
@@ -26,6 +28,9 @@ fn read_by<N: Walk>(width: usize, line: &mut ProbeLine, summary: Summary) -> Pro
         ts line.new.column line.new.pending }
     ensures pace { pace N.tree result ≤ 1 }
     ensures nodes { nodes_next N.tree result ≡ 0 }
+    ensures reads { (ts : List Task) (next : Column → Bool → ℕ) →
+        read_after (look_by width summary line.old.column line.old.pending) (reads_all true width ts next)
+        ≡ reads_on N.tree true width result ts next line.new.column line.new.pending }
 {
     match summary.read(width, line.column, line.pending) {
         ReadResult::Answer(answer) => ProbeStep::Answer(answer),
@@ -56,6 +61,9 @@ fn read_one<N: Walk>(
         nodes_next N.tree a + nodes (stack_of N.tree stack.new) < size (N.tree node) + nodes (stack_of N.tree stack.old)) }
     ensures few { IfOk result (λ a. IsTrue N.HAS_SUMMARIES → HasSummaries (N.tree node) → size (N.tree node) < 2 ^ 32
         → (nodes_next N.tree a ≡ 0) × (stack_of N.tree stack.new ≡ stack_of N.tree stack.old)) }
+    ensures reads { IfOk result (λ a. (next : Column → Bool → ℕ) → IsTrue N.HAS_SUMMARIES → size (N.tree node) < 2 ^ 32
+        → reads_all true width (make_task indent mode (N.tree node) ∷ stack_of N.tree stack.old) next line.old.column line.old.pending
+        ≡ 1 + reads_on N.tree true width a (stack_of N.tree stack.new) next line.new.column line.new.pending) }
 {
     match node.known(mode) {
         Some(summary) => Ok(read_by(width, line, summary)),
@@ -92,6 +100,14 @@ fn read_on<N: Walk>(
         → OneLeft N.tree read (stack_of N.tree stack.old) (unread N.tree commands.now below.old) commands.now.sums.items
         → OneLeft N.tree result (stack_of N.tree stack.new) (unread N.tree commands.now below.new) commands.now.sums.items
         × (unread N.tree commands.now below.new ≡ []) × (probes.new ≤ probes.old + 1) }
+    ensures fits { probes.old ≤ 2 ^ 64 - 1 → probes.new ≤ 2 ^ 64 - 1 }
+    ensures shorter { length (unread N.tree commands.now below.new) ≤ length (unread N.tree commands.now below.old) }
+    ensures reads { length (unread N.tree commands.now below.old) ≤ length commands.now.sums.items
+        → nodes (unread N.tree commands.now below.old) < 2 ^ 32
+        → min (probes.new + reads_on N.tree true width result (stack_of N.tree stack.new)
+        (reads_below true width false (unread N.tree commands.now below.new)) line.new.column line.new.pending) (2 ^ 64 - 1)
+        ≡ min (probes.old + reads_all true width (stack_of N.tree stack.old)
+        (reads_below true width false (unread N.tree commands.now below.old)) line.old.column line.old.pending) (2 ^ 64 - 1) }
 {
     if let Some(next) = stack.pop() {
         return ProbeStep::Descend(next.indent, next.mode, next.node);
@@ -109,7 +125,7 @@ fn read_on<N: Walk>(
 
 /// Visits a node, what is on the stack, and then the printer's commands downwards, up to an answer. Each node that is read and
 /// each sum is counted in `probes`.
-#[tactic(auto, using(crate::proofs::Sizes::size_positive))]
+#[tactic(auto, using(crate::proofs::Sizes::size_positive, crate::proofs::Counting::some_read))]
 pub(crate) fn visit_by_sums<N: Walk>(
     width: usize,
     start: ProbeLine,
@@ -131,6 +147,14 @@ pub(crate) fn visit_by_sums<N: Walk>(
     ensures asked { OnOk result (RisesBy 1 probes.old probes.new) }
     ensures few { stack_of N.tree stack.old ≡ [] → length (unread N.tree commands.now cursor) ≤ length commands.now.sums.items
         → Few N.HAS_SUMMARIES width (N.tree first.node) (unread N.tree commands.now cursor) 1 probes.old probes.new }
+    ensures reads { IsTrue N.HAS_SUMMARIES → length (unread N.tree commands.now cursor) ≤ length commands.now.sums.items
+        → size (N.tree first.node) + (nodes (stack_of N.tree stack.old) + nodes (unread N.tree commands.now cursor)) < 2 ^ 32
+        → OnOk result (RisesTo (reads_all true width (task N.tree first ∷ stack_of N.tree stack.old)
+        (reads_below true width false (unread N.tree commands.now cursor)) start.column start.pending) probes.old probes.new) }
+    ensures reads_at_most { IsTrue N.HAS_SUMMARIES → length (unread N.tree commands.now cursor) ≤ length commands.now.sums.items
+        → size (N.tree first.node) + (nodes (stack_of N.tree stack.old) + nodes (unread N.tree commands.now cursor)) < 2 ^ 32
+        → probes.new ≤ probes.old + reads_all true width (task N.tree first ∷ stack_of N.tree stack.old)
+        (reads_below true width false (unread N.tree commands.now cursor)) start.column start.pending }
 {
     let mut line = start;
     let mut below = cursor;

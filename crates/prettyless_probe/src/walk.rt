@@ -1,8 +1,8 @@
 //! The interface to documents: a node as the printer sees it. It does not know how documents are stored.
-ghost use Rattle.std.specs.Prelude.{◌≡◌, ◌<◌, ◌^◌, Bool, IsTrue};
+ghost use Rattle.std.specs.Prelude.{◌≡◌, ◌<◌, ◌^◌, ◌&&◌, Bool, IsTrue};
 ghost use Rattle.prettyless_model.specs.Tree.{Tree, size};
 ghost use Rattle.prettyless_probe.specs.View.{IsMeasured, view_tree};
-ghost use Rattle.prettyless_summary.specs.Summary.{HasSummaries, IsFound, IsKnown};
+ghost use Rattle.prettyless_summary.specs.Summary.{FoundIf, HasSummaries, IsFound, IsKnown, has_summary};
 
 use prettyless_model::choice::{ColumnTest, NestingTest};
 use prettyless_model::metrics::Metrics;
@@ -55,10 +55,12 @@ pub trait Walk: Copy {
         ensures tree { view_tree tree result ≡ tree self.now }
         ensures metrics { IsMeasured result };
 
-    /// What the node shows a probe in a mode, where that is known: where nodes have summaries, it is so for one all of whose nodes have
-    /// them, and which is not too large.
+    /// What the node shows a probe in a mode, where that is known: where nodes have summaries, it is so for one that has a summary in
+    /// that mode, and for no other, unless it is too large.
     fn known(&self, mode: Mode) -> Option<Summary>
         ensures known { IsKnown result (tree self.now) mode }
         ensures found { IsTrue HAS_SUMMARIES → HasSummaries (tree self.now) → size (tree self.now) < 2 ^ 32
-            → IsFound (size (tree self.now)) result };
+            → IsFound (size (tree self.now)) result }
+        ensures exact { size (tree self.now) < 2 ^ 32
+            → FoundIf (HAS_SUMMARIES && has_summary (tree self.now) mode) (size (tree self.now)) result };
 }

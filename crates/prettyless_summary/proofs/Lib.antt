@@ -1,4 +1,5 @@
 pub mod Chains
+pub mod Has
 pub mod Packing
 pub mod Variants
 pub mod Weak

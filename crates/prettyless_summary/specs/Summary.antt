@@ -4,7 +4,7 @@ use Rattle.std.specs.Prelude.{⊤, if◌then◌else◌}
 use Rattle.prettyless_model.specs.Tree.{Tree, Nest, Append, LineSuffix, DedentToRoot, Align, Flatten, BreakOrFlat, Group, Union}
 use Rattle.prettyless_model.specs.Tree.{PartialUnion, OnColumn, OnNesting}
 use Rattle.prettyless_model.specs.Column.{saturating_add, commit, padding_fits}
-use Rattle.prettyless_model.specs.Look.{Look, Answers, GoesOn, look, look_end, look_then}
+use Rattle.prettyless_model.specs.Look.{Look, Answers, GoesOn, by_mode, look, look_end, look_then}
 use Rattle.prettyless_model.specs.declared.column.Column.{Column}
 use Rattle.prettyless_model.specs.declared.mode.Mode.{Mode}
 use Rattle.prettyless_model.specs.declared.mode.Mode.TheVariants.{Break, Flat}
@@ -86,6 +86,11 @@ look_of (Line c p) = GoesOn c p
 abbrev pub IsFound : ℕ → Option Summary → Type 0
 IsFound n s = MatchOption s ⊥ (IsSmall n)
 
+-- it is so where this holds, and else it is not known
+abbrev pub FoundIf : Bool → ℕ → Option Summary → Type 0
+FoundIf true n s = IsFound n s
+FoundIf false n s = s ≡ None
+
 -- a document all of whose nodes have summaries: no choice by column or nesting
 abbrev pub HasSummaries : Tree → Type 0
 HasSummaries (Append l r) = HasSummaries l × HasSummaries r
@@ -101,3 +106,18 @@ HasSummaries (PartialUnion l r) = HasSummaries l × HasSummaries r
 HasSummaries (OnColumn test y n) = ⊥
 HasSummaries (OnNesting test y n) = ⊥
 HasSummaries _ = ⊤
+
+-- Whether a document has a summary in a mode: no choice by column or nesting stands in what is read of it in that mode.
+abbrev pub has_summary : Tree → Mode → Bool
+has_summary (Append l r) m = has_summary l m && has_summary r m
+has_summary (Nest k d) m = has_summary d m
+has_summary (DedentToRoot d) m = has_summary d m
+has_summary (Align d) m = has_summary d m
+has_summary (Flatten d) m = has_summary d Flat
+has_summary (BreakOrFlat b f) m = by_mode m (has_summary b m) (has_summary f m)
+has_summary (Group d) m = has_summary d m
+has_summary (Union l r) m = by_mode m (has_summary r m) (has_summary l m)
+has_summary (PartialUnion l r) m = by_mode m (has_summary r m) (has_summary l m)
+has_summary (OnColumn test y n) m = false
+has_summary (OnNesting test y n) m = false
+has_summary _ m = true

@@ -1,14 +1,14 @@
 -- Nodes that have the place of their part, and those that have a cell of their own.
-use Rattle.std.proofs.Common.{◌≡◌, ℕ, ◌≤◌, true, false, List, [], ◌∷◌, get_or, ap, subst, sym, ◌∙◌, arith}
+use Rattle.std.proofs.Common.{◌≡◌, ℕ, ◌≤◌, Bool, refl, true, false, List, [], ◌∷◌, get_or, ap, subst, sym, ◌∙◌, arith}
 use Rattle.prettyless_model.specs.Tree.{Tree, Nil, Fail, Text, TextWithLen, MultilineText, WeakSpace, HardLine, WeakLine, ExpandParent}
 use Rattle.prettyless_model.specs.Tree.{LineSuffix, OnColumn, OnNesting, Nest, DedentToRoot, Align, Flatten, Group, BreakOrFlat, Union}
 use Rattle.prettyless_model.specs.Tree.{PartialUnion, Append, size}
 use Rattle.prettyless_model.specs.declared.mode.Mode.{Mode}
 use Rattle.prettyless_model.specs.declared.mode.Mode.TheVariants.{Break, Flat}
-use Rattle.prettyless_summary.specs.Summary.{HasSummaries, Summarizes}
+use Rattle.prettyless_summary.specs.Summary.{Summarizes, has_summary}
 use Rattle.prettyless_summary.specs.declared.summary.Summary.{Summary}
 use Rattle.prettyless_summary.proofs.Variants.{summarizes_nest, summarizes_dedent, summarizes_align, summarizes_group}
-use Rattle.prettyless_table.specs.Sums.{Keeps}
+use Rattle.prettyless_table.specs.Sums.{Keeps, KeptIf}
 use Rattle.prettyless_table.specs.declared.sums.Counts.{Counts}
 use Rattle.prettyless_table.specs.declared.cell.Cell.{Cell}
 use Rattle.prettyless_table.specs.declared.cell.Cell.TheVariants.{Sums, Root}
@@ -17,24 +17,27 @@ use Rattle.prettyless_table.specs.Cells.{HasCell, In, KeepsBoth}
 use Rattle.prettyless_table.specs.Stored.{Serves}
 use Rattle.prettyless_table.proofs.Cells.{in_cell, unless_some}
 
+kept_more : (b : Bool) (marks : ℕ) (counts : Counts) (n k : ℕ) → n ≤ k → KeptIf b marks counts n → KeptIf b marks counts k
+kept_more true marks counts n k l h = (h.0, omega (arith, l, h.1))
+kept_more false marks counts n k l h = h
+
 -- the summary of a part that a cell keeps is that of the node
 keeps_as : (marks : ℕ) (counts : Counts) (d e : Tree) (m : Mode) → ((x : Summary) → Summarizes x d m → Summarizes x e m)
-    → (HasSummaries e → HasSummaries d) → size d ≤ size e → Keeps marks counts d m → Keeps marks counts e m
+    → ((m : Mode) → has_summary d m ≡ has_summary e m) → size d ≤ size e → Keeps marks counts d m → Keeps marks counts e m
 keeps_as marks counts d e m via has less h = record {
   known = λ below s only. via s (h.known below s only);
-  found = λ sums small.
-      let found = h.found (has sums) (omega (arith, less, small)) in
-      (found.0, omega (arith, found.1, less));
+  found = λ small. subst (λ (b : Bool). KeptIf b marks counts (size e)) (has m)
+      (kept_more (has_summary d m) marks counts (size d) (size e) less (h.found (omega (arith, less, small))));
 }
 
 both_as : {N : Type 0} (c : Cell N) (d e : Tree) → ((m : Mode) (x : Summary) → Summarizes x d m → Summarizes x e m)
-    → (HasSummaries e → HasSummaries d) → size d ≤ size e → KeepsBoth c d → KeepsBoth c e
+    → ((m : Mode) → has_summary d m ≡ has_summary e m) → size d ≤ size e → KeepsBoth c d → KeepsBoth c e
 both_as (Sums a b second flat broken) d e via has less h =
     (keeps_as a flat d e Flat (via Flat) has less h.0, keeps_as b broken d e Break (via Break) has less h.1)
 both_as (Root place n) d e via has less h = h
 
 cell_as : {N : Type 0} (cells : List (Cell N)) (at : ℕ) (d e : Tree) → ((m : Mode) (x : Summary) → Summarizes x d m → Summarizes x e m)
-    → (HasSummaries e → HasSummaries d) → size d ≤ size e → HasCell cells at d → HasCell cells at e
+    → ((m : Mode) → has_summary d m ≡ has_summary e m) → size d ≤ size e → HasCell cells at d → HasCell cells at e
 cell_as {N} cells at d e via has less h = record {
   within = h.within;
   keeps = λ (c : Cell N). both_as (get_or cells at c) d e via has less (h.keeps c);
@@ -46,7 +49,7 @@ serves_part N (Nest k d) x e s little cells at h =
     let same : x ≡ d = ap (λ (ds : List Tree). get_or ds 0 Nil) e in
     let stands : In cells d at = subst (λ (t : Tree). In cells t at) same h in
     unless_some (small (Nest k d)) (
-      cell_as cells at d (Nest k d) (λ m y. summarizes_nest y m k d) (λ sums. sums) (omega arith)
+      cell_as cells at d (Nest k d) (λ m y. summarizes_nest y m k d) (λ m. refl) (omega arith)
           (in_cell cells d at (ap small (sym same) ∙ little) stands),
       stands,
     )
@@ -54,7 +57,7 @@ serves_part N (DedentToRoot d) x e s little cells at h =
     let same : x ≡ d = ap (λ (ds : List Tree). get_or ds 0 Nil) e in
     let stands : In cells d at = subst (λ (t : Tree). In cells t at) same h in
     unless_some (small (DedentToRoot d)) (
-      cell_as cells at d (DedentToRoot d) (λ m y. summarizes_dedent y m d) (λ sums. sums) (omega arith)
+      cell_as cells at d (DedentToRoot d) (λ m y. summarizes_dedent y m d) (λ m. refl) (omega arith)
           (in_cell cells d at (ap small (sym same) ∙ little) stands),
       stands,
     )
@@ -62,7 +65,7 @@ serves_part N (Align d) x e s little cells at h =
     let same : x ≡ d = ap (λ (ds : List Tree). get_or ds 0 Nil) e in
     let stands : In cells d at = subst (λ (t : Tree). In cells t at) same h in
     unless_some (small (Align d)) (
-      cell_as cells at d (Align d) (λ m y. summarizes_align y m d) (λ sums. sums) (omega arith)
+      cell_as cells at d (Align d) (λ m y. summarizes_align y m d) (λ m. refl) (omega arith)
           (in_cell cells d at (ap small (sym same) ∙ little) stands),
       stands,
     )
@@ -70,7 +73,7 @@ serves_part N (Group d) x e s little cells at h =
     let same : x ≡ d = ap (λ (ds : List Tree). get_or ds 0 Nil) e in
     let stands : In cells d at = subst (λ (t : Tree). In cells t at) same h in
     unless_some (small (Group d)) (
-      cell_as cells at d (Group d) (λ m y. summarizes_group y m d) (λ sums. sums) (omega arith)
+      cell_as cells at d (Group d) (λ m y. summarizes_group y m d) (λ m. refl) (omega arith)
           (in_cell cells d at (ap small (sym same) ∙ little) stands),
       stands,
     )

@@ -1,22 +1,27 @@
 -- The summaries of a node, from those of its parts.
-use Rattle.std.proofs.Common.{◌≡◌, ℕ, ℤ, ◌+◌, ◌<◌, ◌≤◌, ◌^◌, Option, Some, None, false, refl, subst, sym, arith}
+use Rattle.std.proofs.Common.{◌≡◌, ◌≢◌, ℕ, ℤ, ◌+◌, ◌<◌, ◌≤◌, ◌^◌, ◌&&◌, Bool, [], Option, Some, None, true, false, refl, subst, sym, arith}
+use Rattle.prettyless_model.specs.Tree as t
 use Rattle.prettyless_model.specs.Tree.{Tree, HardLine, Nest, DedentToRoot, Align, Flatten, Group, BreakOrFlat, Union, PartialUnion, Append}
 use Rattle.prettyless_model.specs.Tree.{size}
 use Rattle.prettyless_model.specs.Column.{padding_fits}
 use Rattle.prettyless_model.specs.Look.{Answers}
 use Rattle.prettyless_model.specs.declared.mode.Mode.{Mode}
 use Rattle.prettyless_model.specs.declared.mode.Mode.TheVariants.{Break, Flat}
-use Rattle.prettyless_summary.specs.Summary.{HasSummaries, IsFound, IsKnown, ReadsLook, Summarizes}
+use Rattle.prettyless_summary.specs.Summary.{FoundIf, IsFound, IsKnown, IsSmall, ReadsLook, Summarizes, has_summary}
+use Rattle.prettyless_summary.specs.Marks.{marks_of}
 use Rattle.prettyless_summary.specs.declared.summary.Summary.{Summary}
 use Rattle.prettyless_summary.proofs.Variants.{summarizes_hard_line, summarizes_flat_hard_line, summarizes_nest, summarizes_dedent}
 use Rattle.prettyless_summary.proofs.Variants.{summarizes_align, summarizes_group, summarizes_flatten, summarizes_break_or_flat}
 use Rattle.prettyless_summary.proofs.Variants.{summarizes_union, summarizes_partial_union}
 use Rattle.prettyless_table.specs.declared.sums.Sums.{Sums}
-use Rattle.prettyless_table.specs.Sums.{AreDocumentSums, IsModeSummary}
+use Rattle.prettyless_table.specs.Parts.{parts_of}
+use Rattle.prettyless_table.specs.Sums.{AreDocumentSums, IsModeSummary, IsOnly, Keeps, KeptIf}
+use Rattle.prettyless_table.specs.declared.sums.Counts.{Counts}
 
-found_more : (n k : ℕ) (s : Option Summary) → n ≤ k → IsFound n s → IsFound k s
-found_more n k None l h = h
-found_more n k (Some x) l h = omega (arith, l, h)
+found_more : (b : Bool) (n k : ℕ) (s : Option Summary) → n ≤ k → FoundIf b n s → FoundIf b k s
+found_more false n k s l h = h
+found_more true n k None l h = h
+found_more true n k (Some x) l h = omega (arith, l, h)
 
 known_as : (s : Option Summary) (d e : Tree) (m n : Mode) → ((x : Summary) → Summarizes x d m → Summarizes x e n) → IsKnown s d m
     → IsKnown s e n
@@ -25,73 +30,75 @@ known_as (Some x) d e m n via h = via x h
 
 -- the summary of a part is that of the node
 sums_as : (s : Option Summary) (d e : Tree) (m n : Mode) → ((x : Summary) → Summarizes x d m → Summarizes x e n)
-    → (HasSummaries e → HasSummaries d)
-    → size d ≤ size e → IsModeSummary s d m → IsModeSummary s e n
+    → has_summary d m ≡ has_summary e n → size d ≤ size e → IsModeSummary s d m → IsModeSummary s e n
 sums_as s d e m n via has less h = record {
   known = known_as s d e m n via h.known;
-  found = λ sums small. found_more (size d) (size e) s less (h.found (has sums) (omega (arith, less, small)));
+  found = λ small. subst (λ (b : Bool). FoundIf b (size e) s) has
+      (found_more (has_summary d m) (size d) (size e) s less (h.found (omega (arith, less, small))));
 }
 
 pub sums_flatten : (s : Sums) (d : Tree) → AreDocumentSums s d → AreDocumentSums (record { flat = s.flat; broken = s.flat }) (Flatten d)
 sums_flatten s d h = record {
-  flat = sums_as s.flat d (Flatten d) Flat Flat (λ x. summarizes_flatten x Flat d) (λ sums. sums) (omega arith) h.flat;
-  broken = sums_as s.flat d (Flatten d) Flat Break (λ x. summarizes_flatten x Break d) (λ sums. sums) (omega arith) h.flat;
+  flat = sums_as s.flat d (Flatten d) Flat Flat (λ x. summarizes_flatten x Flat d) refl (omega arith) h.flat;
+  broken = sums_as s.flat d (Flatten d) Flat Break (λ x. summarizes_flatten x Break d) refl (omega arith) h.flat;
 }
 
 pub sums_nest : (s : Sums) (k : ℤ) (d : Tree) → AreDocumentSums s d → AreDocumentSums s (Nest k d)
 sums_nest s k d h = record {
-  flat = sums_as s.flat d (Nest k d) Flat Flat (λ x. summarizes_nest x Flat k d) (λ sums. sums) (omega arith) h.flat;
-  broken = sums_as s.broken d (Nest k d) Break Break (λ x. summarizes_nest x Break k d) (λ sums. sums) (omega arith) h.broken;
+  flat = sums_as s.flat d (Nest k d) Flat Flat (λ x. summarizes_nest x Flat k d) refl (omega arith) h.flat;
+  broken = sums_as s.broken d (Nest k d) Break Break (λ x. summarizes_nest x Break k d) refl (omega arith) h.broken;
 }
 
 pub sums_dedent : (s : Sums) (d : Tree) → AreDocumentSums s d → AreDocumentSums s (DedentToRoot d)
 sums_dedent s d h = record {
-  flat = sums_as s.flat d (DedentToRoot d) Flat Flat (λ x. summarizes_dedent x Flat d) (λ sums. sums) (omega arith) h.flat;
-  broken = sums_as s.broken d (DedentToRoot d) Break Break (λ x. summarizes_dedent x Break d) (λ sums. sums) (omega arith) h.broken;
+  flat = sums_as s.flat d (DedentToRoot d) Flat Flat (λ x. summarizes_dedent x Flat d) refl (omega arith) h.flat;
+  broken = sums_as s.broken d (DedentToRoot d) Break Break (λ x. summarizes_dedent x Break d) refl (omega arith) h.broken;
 }
 
 pub sums_align : (s : Sums) (d : Tree) → AreDocumentSums s d → AreDocumentSums s (Align d)
 sums_align s d h = record {
-  flat = sums_as s.flat d (Align d) Flat Flat (λ x. summarizes_align x Flat d) (λ sums. sums) (omega arith) h.flat;
-  broken = sums_as s.broken d (Align d) Break Break (λ x. summarizes_align x Break d) (λ sums. sums) (omega arith) h.broken;
+  flat = sums_as s.flat d (Align d) Flat Flat (λ x. summarizes_align x Flat d) refl (omega arith) h.flat;
+  broken = sums_as s.broken d (Align d) Break Break (λ x. summarizes_align x Break d) refl (omega arith) h.broken;
 }
 
 pub sums_group : (s : Sums) (d : Tree) → AreDocumentSums s d → AreDocumentSums s (Group d)
 sums_group s d h = record {
-  flat = sums_as s.flat d (Group d) Flat Flat (λ x. summarizes_group x Flat d) (λ sums. sums) (omega arith) h.flat;
-  broken = sums_as s.broken d (Group d) Break Break (λ x. summarizes_group x Break d) (λ sums. sums) (omega arith) h.broken;
+  flat = sums_as s.flat d (Group d) Flat Flat (λ x. summarizes_group x Flat d) refl (omega arith) h.flat;
+  broken = sums_as s.broken d (Group d) Break Break (λ x. summarizes_group x Break d) refl (omega arith) h.broken;
 }
 
 pub sums_break_or_flat : (s t : Sums) (d e : Tree) → AreDocumentSums s d → AreDocumentSums t e
     → AreDocumentSums (record { flat = t.flat; broken = s.broken }) (BreakOrFlat d e)
 sums_break_or_flat s t d e h k = record {
-  flat = sums_as t.flat e (BreakOrFlat d e) Flat Flat (λ x. summarizes_break_or_flat x Flat d e) (λ sums. sums.1) (omega arith) k.flat;
-  broken = sums_as s.broken d (BreakOrFlat d e) Break Break (λ x. summarizes_break_or_flat x Break d e) (λ sums. sums.0) (omega arith)
+  flat = sums_as t.flat e (BreakOrFlat d e) Flat Flat (λ x. summarizes_break_or_flat x Flat d e) refl (omega arith) k.flat;
+  broken = sums_as s.broken d (BreakOrFlat d e) Break Break (λ x. summarizes_break_or_flat x Break d e) refl (omega arith)
       h.broken;
 }
 
 pub sums_union : (s t : Sums) (d e : Tree) → AreDocumentSums s d → AreDocumentSums t e →
     AreDocumentSums (record { flat = s.flat; broken = t.broken }) (Union d e)
 sums_union s t d e h k = record {
-  flat = sums_as s.flat d (Union d e) Flat Flat (λ x. summarizes_union x Flat d e) (λ sums. sums.0) (omega arith) h.flat;
-  broken = sums_as t.broken e (Union d e) Break Break (λ x. summarizes_union x Break d e) (λ sums. sums.1) (omega arith) k.broken;
+  flat = sums_as s.flat d (Union d e) Flat Flat (λ x. summarizes_union x Flat d e) refl (omega arith) h.flat;
+  broken = sums_as t.broken e (Union d e) Break Break (λ x. summarizes_union x Break d e) refl (omega arith) k.broken;
 }
 
 pub sums_partial_union : (s t : Sums) (d e : Tree) → AreDocumentSums s d → AreDocumentSums t e
     → AreDocumentSums (record { flat = s.flat; broken = t.broken }) (PartialUnion d e)
 sums_partial_union s t d e h k = record {
-  flat = sums_as s.flat d (PartialUnion d e) Flat Flat (λ x. summarizes_partial_union x Flat d e) (λ sums. sums.0) (omega arith) h.flat;
-  broken = sums_as t.broken e (PartialUnion d e) Break Break (λ x. summarizes_partial_union x Break d e) (λ sums. sums.1) (omega arith)
+  flat = sums_as s.flat d (PartialUnion d e) Flat Flat (λ x. summarizes_partial_union x Flat d e) refl (omega arith) h.flat;
+  broken = sums_as t.broken e (PartialUnion d e) Break Break (λ x. summarizes_partial_union x Break d e) refl (omega arith)
       k.broken;
 }
 
 -- what is known of two summaries combined
 pub sums_append : (s t r : Option Summary) (d e : Tree) (m : Mode) → IsModeSummary s d m → IsModeSummary t e m → IsKnown r (Append d e) m
-    → ((n k : ℕ) → n + k < 2 ^ 32 → IsFound n s → IsFound k t → IsFound (n + k) r) → IsModeSummary r (Append d e) m
-sums_append s t r d e m h k known found = record {
+    → ((a b : Bool) (n k : ℕ) → n + k < 2 ^ 32 → FoundIf a n s → FoundIf b k t → FoundIf (a && b) (n + k) r)
+    → IsModeSummary r (Append d e) m
+sums_append s t r d e m h k known exact = record {
   known = known;
-  found = λ sums small. found_more (size d + size e) (size d + size e + 1) r (omega arith)
-      (found (size d) (size e) (omega (arith, small)) (h.found sums.0 (omega (arith, small))) (k.found sums.1 (omega (arith, small))));
+  found = λ small. found_more (has_summary (Append d e) m) (size d + size e) (size d + size e + 1) r (omega arith)
+      (exact (has_summary d m) (has_summary e m) (size d) (size e) (omega (arith, small)) (h.found (omega (arith, small)))
+      (k.found (omega (arith, small))));
 }
 
 -- the summary of a line break
@@ -100,3 +107,92 @@ pub sum_hard_line : (s broken : Summary) (m : Mode) → ReadsLook broken (λ wid
     → (m ≡ Flat → ReadsLook s (λ width c p. Answers false)) → Summarizes s HardLine m
 sum_hard_line s broken Break h same never = subst (λ x. Summarizes x HardLine Break) (sym (same refl)) (summarizes_hard_line broken h)
 sum_hard_line s broken Flat h same never = summarizes_flat_hard_line s (never refl)
+
+-- a leaf has a summary
+pub leaf_found : (d : Tree) (m : Mode) (s : Summary) → [] ≡ parts_of d → IsSmall 1 s → FoundIf (has_summary d m) (size d) (Some s)
+leaf_found t.Nil m s e h = h
+leaf_found t.Fail m s e h = h
+leaf_found (t.Text x) m s e h = h
+leaf_found (t.TextWithLen w x) m s e h = h
+leaf_found (t.MultilineText x) m s e h = h
+leaf_found t.WeakSpace m s e h = h
+leaf_found t.HardLine m s e h = h
+leaf_found t.WeakLine m s e h = h
+leaf_found t.ExpandParent m s e h = h
+leaf_found (t.Append l r) m s e h = absurd (cc)
+leaf_found (t.LineSuffix d) m s e h = absurd (cc)
+leaf_found (t.Nest k d) m s e h = absurd (cc)
+leaf_found (t.DedentToRoot d) m s e h = absurd (cc)
+leaf_found (t.Align d) m s e h = absurd (cc)
+leaf_found (t.Flatten d) m s e h = absurd (cc)
+leaf_found (t.BreakOrFlat b f) m s e h = absurd (cc)
+leaf_found (t.Group d) m s e h = absurd (cc)
+leaf_found (t.Union l r) m s e h = absurd (cc)
+leaf_found (t.PartialUnion l r) m s e h = absurd (cc)
+leaf_found (t.OnColumn test y n) m s e h = absurd (cc)
+leaf_found (t.OnNesting test y n) m s e h = absurd (cc)
+
+-- the summary of a leaf
+pub sum_leaf : (d : Tree) (m : Mode) (s : Summary) → [] ≡ parts_of d → Summarizes s d m → IsSmall 1 s → IsModeSummary (Some s) d m
+sum_leaf d m s e known small = record { known = known; found = λ few. leaf_found d m s e small }
+
+-- what is known of a document that has a summary
+pub found_has : (b : Bool) (n : ℕ) (s : Option Summary) → b ≡ true → FoundIf b n s → IsFound n s
+found_has true n s e h = h
+found_has false n s e h = absurd (cc)
+
+none_found : (b : Bool) (n : ℕ) → b ≡ false → FoundIf b n None
+none_found true n e = absurd (cc)
+none_found false n e = refl
+
+-- a document that has no summary
+pub sum_none : (d : Tree) (m : Mode) → has_summary d m ≡ false → IsModeSummary None d m
+sum_none d m e = record { known = tt; found = λ few. none_found (has_summary d m) (size d) e }
+
+-- ---- What a cell keeps
+
+kept_some : (b : Bool) (n : ℕ) (s : Summary) (marks : ℕ) (counts : Counts) → marks < 255 → counts.lead ≡ s.lead
+    → counts.trail ≡ s.trail → FoundIf b n (Some s) → KeptIf b marks counts n
+kept_some true n s marks counts l e k h = (l, omega (arith, e, k, h))
+kept_some false n s marks counts l e k h = absurd (cc)
+
+kept_none : (b : Bool) (n : ℕ) (counts : Counts) → FoundIf b n None → KeptIf b 255 counts n
+kept_none true n counts h = absurd h
+kept_none false n counts h = refl
+
+-- the marks and numbers that a summary is packed into
+pub pack_some : (s : Summary) (marks : ℕ) (counts : Counts) (d : Tree) (m : Mode) → marks < 255 → marks ≡ marks_of s
+    → counts.lead ≡ s.lead → counts.inner ≡ s.inner → counts.trail ≡ s.trail → IsModeSummary (Some s) d m → Keeps marks counts d m
+pack_some s marks counts d m below same lead inner trail h = record {
+  known = λ l t only. subst (λ (x : Summary). Summarizes x d m) (sym (only s lead inner trail same)) h.known;
+  found = λ few. kept_some (has_summary d m) (size d) s marks counts below lead trail (h.found few);
+}
+
+pub pack_none : (counts : Counts) (d : Tree) (m : Mode) → IsModeSummary None d m → Keeps 255 counts d m
+pack_none counts d m h = record {
+  known = λ l t only. absurd (omega (arith, l));
+  found = λ few. kept_none (has_summary d m) (size d) counts (h.found few);
+}
+
+found_of : (b : Bool) (n : ℕ) (s : Summary) (marks : ℕ) (counts : Counts) → marks ≢ 255 → s.lead ≡ counts.lead
+    → s.trail ≡ counts.trail → KeptIf b marks counts n → FoundIf b n (Some s)
+found_of true n s marks counts l e k h = omega (arith, e, k, h.1)
+found_of false n s marks counts l e k h = absurd (l h)
+
+none_of : (b : Bool) (n marks : ℕ) (counts : Counts) → marks ≡ 255 → KeptIf b marks counts n → FoundIf b n None
+none_of true n marks counts e h = absurd (omega (arith, e, h.0))
+none_of false n marks counts e h = refl
+
+-- the summary that is unpacked of it
+pub unpack_some : (s : Summary) (marks : ℕ) (counts : Counts) (d : Tree) (m : Mode) → marks < 255 → s.lead ≡ counts.lead
+    → s.trail ≡ counts.trail → IsOnly marks counts s → Keeps marks counts d m → IsModeSummary (Some s) d m
+unpack_some s marks counts d m below e k only h = record {
+  known = h.known below s only;
+  found = λ few. found_of (has_summary d m) (size d) s marks counts (λ same. omega (arith, below, same)) e k (h.found few);
+}
+
+pub unpack_none : (marks : ℕ) (counts : Counts) (d : Tree) (m : Mode) → marks ≡ 255 → Keeps marks counts d m → IsModeSummary None d m
+unpack_none marks counts d m e h = record {
+  known = tt;
+  found = λ few. none_of (has_summary d m) (size d) marks counts e (h.found few);
+}

@@ -2,7 +2,8 @@
 use Rattle.std.specs.Prelude.{◌≡◌, ℤ, Bool, true, false, ◌&&◌, if◌then◌else◌, List, [], ◌∷◌}
 use Rattle.prettyless_model.specs.Tree.{Tree, Append, LineSuffix, Nest, DedentToRoot, Align, Flatten, BreakOrFlat, Group, Union}
 use Rattle.prettyless_model.specs.Tree.{PartialUnion, OnColumn, OnNesting}
-use Rattle.prettyless_summary.specs.Summary.{HasSummaries}
+use Rattle.prettyless_summary.specs.Summary.{has_summary}
+use Rattle.prettyless_model.specs.declared.mode.Mode.{Mode}
 use Rattle.prettyless_table.specs.declared.kind.Single.{Single}
 use Rattle.prettyless_table.specs.declared.kind.Single.TheVariants as one
 use Rattle.prettyless_table.specs.declared.kind.Pair.{Pair}
@@ -55,7 +56,7 @@ abbrev pub IsShape : {N : Type 0} → (N → Tree) → Shape N → Tree → Type
 IsShape f shape.Leaf d = [] ≡ parts_of d
 IsShape f (shape.One kind k x) d = single_tree kind k (f x) ≡ d
 IsShape f (shape.Two kind x y) d = pair_tree kind (f x) (f y) ≡ d
-IsShape f (shape.Choice x y) d = (HasSummaries d → ⊥) × (f x ∷ f y ∷ [] ≡ parts_of d)
+IsShape f (shape.Choice x y) d = ((m : Mode) → has_summary d m ≡ false) × (f x ∷ f y ∷ [] ≡ parts_of d)
 
 -- whether there are no trees
 abbrev pub none : List Tree → Bool

@@ -148,15 +148,15 @@ impl<N: Walk> Table<N> {
         self.cells.len().saturating_sub(1) as u32
     }
 
-    // The cell of a node whose parts are stored: the first one last, and the second one at this place.
-    fn cell_of(&self, node: &N, second: u32) -> Cell<N>
+    // The summaries of a node whose parts are stored: the first one last, and the second one at this place.
+    #[inline(always)]
+    fn node_sums(&self, node: &N, second: u32) -> Sums
         requires most { length self.now.cells.items ≤ MOST_CELLS }
         requires first { FirstIn self.now.cells.items (length self.now.cells.items - 1) (parts_of (N.tree node.now)) }
         requires second { SecondIn self.now.cells.items second (parts_of (N.tree node.now)) }
-        ensures keeps { KeepsBoth result (N.tree node.now) }
-        ensures second { second_of result ≡ second }
+        ensures { AreDocumentSums result (N.tree node.now) }
     {
-        let sums = match shape_of(node) {
+        match shape_of(node) {
             Shape::One(kind, _, inner) => of_single(kind, self.sums(&inner, self.last())),
             Shape::Two(kind, first, other) => of_pair(
                 kind,
@@ -165,7 +165,18 @@ impl<N: Walk> Table<N> {
             ),
             Shape::Choice(_, _) => NO_SUMS,
             Shape::Leaf => leaf_sums(node),
-        };
+        }
+    }
+
+    // The cell of a node whose parts are stored: the first one last, and the second one at this place.
+    fn cell_of(&self, node: &N, second: u32) -> Cell<N>
+        requires most { length self.now.cells.items ≤ MOST_CELLS }
+        requires first { FirstIn self.now.cells.items (length self.now.cells.items - 1) (parts_of (N.tree node.now)) }
+        requires second { SecondIn self.now.cells.items second (parts_of (N.tree node.now)) }
+        ensures keeps { KeepsBoth result (N.tree node.now) }
+        ensures second { second_of result ≡ second }
+    {
+        let sums = self.node_sums(node, second);
         let (flat_marks, flat) = packed(sums.flat);
         let (broken_marks, broken) = packed(sums.broken);
         Cell::Sums {

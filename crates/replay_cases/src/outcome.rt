@@ -3,7 +3,6 @@ use crate::case::ReadCase;
 use crate::refusal::Refusal;
 use crate::text::word_of;
 use prettyless::{DocPtr, FmtWrite, RenderError, Visits};
-use prettyless_printer::render::render_over_table;
 use std::alloc::{AllocError, Global};
 
 /// Which nodes a render begins with.
@@ -57,9 +56,11 @@ pub fn laid_out<'a, T: DocPtr<'a>>(
     let document = case.document.doc();
     let ending = match over {
         Over::Document => {
+            document.render_raw_observed_with(alloc, case.options, &mut sink, &mut visits)
+        }
+        Over::Table => {
             document.render_raw_counted_with(alloc, case.options, &mut sink, &mut visits)
         }
-        Over::Table => render_over_table(alloc, document, case.options, &mut sink, &mut visits),
     };
     let fails = match ending {
         Ok(()) => false,

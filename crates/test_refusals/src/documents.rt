@@ -36,6 +36,7 @@ pub enum Kind {
     EndingLine,
     RejectedAfter,
     BothKept,
+    Grouped,
 }
 
 /// The documents that are built in each place.
@@ -58,6 +59,9 @@ pub const COPIED: &[Kind] = &[Kind::Interspersed, Kind::Owned];
 
 /// The document that stays while others are built.
 pub const KEPT: Kind = Kind::Suffixes;
+
+/// The document whose visits are counted.
+pub const COUNTED: Kind = Kind::Grouped;
 
 fn repeated<'a, D: DocPlace<'a>>(place: &'a D) -> Result<D::Doc, BuildError> {
     place.pretty(("a", hard_line()))?.repeat(5)?.into_doc()
@@ -95,6 +99,11 @@ fn suffixes<'a, D: DocPlace<'a>>(place: &'a D) -> Result<D::Doc, BuildError> {
     joined(joined(front, place.hard_line()), text(place, "b"))?.into_doc()
 }
 
+fn grouped<'a, D: DocPlace<'a>>(place: &'a D) -> Result<D::Doc, BuildError> {
+    let front = joined(text(place, "a"), place.line());
+    joined(front, text(place, "b"))?.group()?.into_doc()
+}
+
 impl Kind {
     pub fn name(self) -> &'static str {
         match self {
@@ -110,6 +119,7 @@ impl Kind {
             Kind::EndingLine => "a branch that ends its line",
             Kind::RejectedAfter => "a branch in one that is too wide",
             Kind::BothKept => "a branch in one that fits",
+            Kind::Grouped => "a pair in a group",
         }
     }
 
@@ -139,6 +149,7 @@ impl Kind {
             Kind::EndingLine => ending_line(place),
             Kind::RejectedAfter => rejected_after(place),
             Kind::BothKept => both_kept(place),
+            Kind::Grouped => grouped(place),
         }
     }
 }

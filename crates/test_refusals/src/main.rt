@@ -1,6 +1,6 @@
-//! Builds documents in each place, copies them and lays them out, and formats an S-expression, all over fixed arrays. Where memory
-//! is refused it does the same once more, which has to succeed. So it prints the same whichever one request for memory is refused,
-//! and `tools/refuse_memory` refuses each in turn. It fails where it cannot go on.
+//! Builds documents in each place, copies them, lays them out and counts the visits of one, and formats an S-expression, all over
+//! fixed arrays. Where memory is refused it does the same once more, which has to succeed. So it prints the same whichever one request
+//! for memory is refused, and `tools/refuse_memory` refuses each in turn. It fails where it cannot go on.
 //!
 //! `rt try` refuses the request of one number in all runs. So this reads how many requests it makes of its own before the others,
 //! and says whether one of its own was refused.
@@ -12,10 +12,11 @@ mod parts;
 
 use arrayvec::ArrayVec;
 use decimals::number;
-use documents::{ALL, COPIED, KEPT, Kind};
+use documents::{ALL, COPIED, COUNTED, KEPT, Kind};
 use prettyless::text::BuildError;
 use prettyless::{
-    Arena, BoxAllocator, BoxDoc, Bump, DocPlace, DocPtr, RcAllocator, RenderError, RenderOptions,
+    Arena, BoxAllocator, BoxDoc, Bump, DocPlace, DocPtr, IoWrite, RcAllocator, RenderError,
+    RenderOptions, Visits,
 };
 use sexp_formatter::RunError;
 use std::alloc::Global;
@@ -116,6 +117,34 @@ fn print<'a, R: AllocGlobal + Print, T: DocPtr<'a>>(
     println!(rt).ok()
 }
 
+// The visits of a render that counts them.
+fn count<'a, T: DocPtr<'a>>(memory: Global, document: &T) -> Option<Visits> {
+    let (mut out, mut visits) = (Fixed::new(), Visits::default());
+    let mut sink = IoWrite::new(&mut out);
+    let options = RenderOptions::default();
+    let document = document.doc();
+    match document.render_raw_counted_with(memory, options, &mut sink, &mut visits) {
+        Ok(()) => Some(visits),
+        Err(_) => None,
+    }
+}
+
+// Prints how many visits the probes of a pair in a group take: one over a table, six where that is refused memory.
+fn print_counted<R: AllocGlobal + Print>(rt: &R) -> Option<()> {
+    let boxes = BoxAllocator::new(rt.alloc());
+    let pair = build(&boxes, COUNTED)?;
+    let visits = match count(rt.alloc(), &pair) {
+        None => count(rt.alloc(), &pair)?,
+        Some(visits) => visits,
+    };
+    let probes = if visits.refused == 0 { 1 } else { 6 };
+    if visits.printer != 7 || visits.probes != probes {
+        return None;
+    }
+    let name = COUNTED.name();
+    println!(rt; "-- counted: {name}, visits of probes: {probes}").ok()
+}
+
 // Builds each document, and prints its layout. So it does of the one that was built first, after all others.
 fn print_each<'a, R: AllocGlobal + Print, D: DocPlace<'a>>(
     rt: &R,
@@ -171,7 +200,8 @@ fn print_all<R: AllocGlobal + Print>(rt: &R) -> Option<()> {
     print_in_arena(rt, &arena)?;
     print_copies(rt)?;
     print_counted_copies(rt)?;
-    print_formatted(rt)
+    print_formatted(rt)?;
+    print_counted(rt)
 }
 
 // Makes a request, and answers whether it is granted.

@@ -4,9 +4,9 @@ use Rattle.std.specs.Str.{IsUtf8}
 use Rattle.text_places.specs.Places.{IsPlaceWithin}
 use Rattle.prettyless_area.specs.Overlay.{overlay}
 use Rattle.prettyless_exports.specs.Answers.{Holds, IsUntouched}
-use Rattle.toml_formatter.specs.Formats.{IsFormattedToml}
+use Rattle.toml_formatter.specs.Formats.{HasBadLayout, IsFormattedToml}
 use Rattle.toml_grammar.specs.Grammar.{is_toml}
-use Rattle.toml_grammar.specs.Refusals.{NamesFault, nesting}
+use Rattle.toml_grammar.specs.Refusals.{NamesBracket, NamesFault, nesting}
 use Rattle.toml_grammar.specs.declared.refusal.Refusal.{Refusal}
 
 -- So far into the text it is TOML, or not too deep: there something else was expected, whose name is in the area.
@@ -21,8 +21,9 @@ pub record IsTomlFault (text old new : List ℕ) (written line column : ℕ) : T
   pub encoding : ¬ IsUtf8 text → refusal.expected.now ≡ codes "UTF-8"
   -- where it is, and not TOML, this is the fault of its grammar
   pub fault : IsUtf8 text → is_toml text ≡ false → NamesFault text refusal
-  -- where it is TOML, less depth was expected
+  -- where it is TOML, less depth was expected, and this is its first bracket that is too deep
   pub depth : IsUtf8 text → is_toml text ≡ true → refusal.expected.now ≡ nesting
+  pub bracket : IsUtf8 text → is_toml text ≡ true → NamesBracket text refusal
 
 -- The answer to a text, for an area that held `old` and holds `new`.
 pub record AnswersToml (limit : ℕ) (text old new : List ℕ) (written line column status : ℕ) : Type 0 where
@@ -34,6 +35,8 @@ pub record AnswersToml (limit : ℕ) (text old new : List ℕ) (written line col
       × (length old < length bytes) × (new ≡ overlay bytes old) × (written ≡ length bytes)
   -- memory was refused, and the area is as it was
   pub memory : status ≡ 2 → IsUntouched old new written
+  -- the text is TOML, but its layout is none, and the area is as it was
+  pub bad_layout : status ≡ 3 → HasBadLayout text × IsUntouched old new written
   -- the layout is longer than the limit, and what is within the limit is in the area
   pub past_limit : status ≡ 4 → (bytes : List ℕ) × IsFormattedToml text bytes × (limit < length bytes)
       × Holds (take limit bytes) old new written
@@ -42,4 +45,4 @@ pub record AnswersToml (limit : ℕ) (text old new : List ℕ) (written line col
   -- at the other statuses there is no place
   pub no_place : ¬ (status ≡ 6) → (line ≡ 0) × (column ≡ 0)
   -- there is no other status
-  pub known : (status ≤ 2) ⊎ (status ≡ 4) ⊎ (status ≡ 6)
+  pub known : (status ≤ 4) ⊎ (status ≡ 6)

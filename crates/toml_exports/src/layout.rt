@@ -1,7 +1,7 @@
 //! The layout of a TOML text, into an area of bytes.
 ghost use Rattle.prettyless_exports.specs.Answers.{limit_of};
 ghost use Rattle.toml_exports.specs.Answers.{AnswersToml};
-ghost use Rattle.toml_exports.specs.Statuses.{RefusesToml, TomlStatusHolds};
+ghost use Rattle.toml_exports.specs.Statuses.{IsTooDeepIfToml, RefusesToml, TomlStatusHolds};
 
 use crate::status::Status;
 use prettyless_exports::layout::limit_from;
@@ -25,6 +25,10 @@ fn text_laid(
     match formatted(alloc, text, style) {
         Ok(layout) => Status::LaidOut(put_text(layout.as_str(), limit, out, written)),
         Err(FormatError::NotToml | FormatError::TooDeep) => Status::NotToml,
+        Err(FormatError::LayoutNotToml) => {
+            *written = 0;
+            Status::LayoutNotToml
+        }
         Err(FormatError::Memory(_)) => {
             *written = 0;
             Status::Memory
@@ -59,6 +63,7 @@ fn refused(
     line: &mut usize,
     column: &mut usize,
 ) -> Status
+    requires { IsTooDeepIfToml text.now }
     ensures { RefusesToml text.now out.old out.new written.new line.new column.new result }
 {
     match refusal_of(alloc, text) {

@@ -11,6 +11,8 @@ pub enum Status {
     LaidOut(Put),
     /// Memory was refused.
     Memory,
+    /// The layout of the text is no TOML.
+    LayoutNotToml,
     /// The bytes are no TOML text, or brackets are too deep in one another.
     NotToml,
 }
@@ -24,6 +26,7 @@ impl Status {
             Status::LaidOut(Put::Whole) => 0,
             Status::LaidOut(Put::Beginning) => 1,
             Status::Memory => 2,
+            Status::LayoutNotToml => 3,
             Status::LaidOut(Put::PastLimit) => 4,
             Status::NotToml => 6,
         }

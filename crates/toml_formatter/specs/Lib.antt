@@ -1,4 +1,5 @@
 pub mod Errors
+pub mod Depths
 pub mod Formats
 pub mod Gaps
 pub mod Kinds

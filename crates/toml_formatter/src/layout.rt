@@ -1,11 +1,12 @@
 //! The layout of a text.
-ghost use Rattle.std.specs.Prelude.{◌≡◌, IfOk, IfErr};
+ghost use Rattle.std.specs.Prelude.{◌≡◌, false, IfOk, IfErr, OnOk};
 ghost use Rattle.std.specs.String.{string_bytes};
 ghost use Rattle.prettyless.specs.Content.{HasContent};
+ghost use Rattle.prettyless.specs.Layout.{Whole, layout};
 ghost use Rattle.toml_lexemes.specs.Lexemes.{toml_lexemes_of};
-ghost use Rattle.toml_statements.specs.Statements.{statements};
-ghost use Rattle.toml_formatter.specs.Errors.{IsRefusal};
-ghost use Rattle.toml_formatter.specs.Formats.{IsFormattedToml, IsRefusedToml};
+ghost use Rattle.toml_grammar.specs.Nesting.{is_too_deep};
+ghost use Rattle.toml_formatter.specs.Errors.{IsFormatMemory, IsRefusalOf};
+ghost use Rattle.toml_formatter.specs.Formats.{IsFormattedToml, IsRefusedToml, IsTomlLayout};
 ghost use Rattle.toml_statements.specs.Sound.{AreSound};
 
 use crate::document::document;
@@ -46,8 +47,9 @@ fn rendered<'a, P: DocPtr<'a>>(
     alloc: Global,
     options: RenderOptions,
 ) -> Result<String, FormatError>
-    ensures ok { IfOk result (λ layout. HasContent (P.tree document.now) (string_bytes layout)) }
-    ensures err { IfErr result IsRefusal }
+    ensures ok { IfOk result (λ made. HasContent (P.tree document.now) (string_bytes made)) }
+    ensures laid { IfOk result (λ made. layout options (P.tree document.now) ≡ Whole (string_bytes made)) }
+    ensures err { IfErr result IsFormatMemory }
 {
     let mut layout = String::new(alloc);
     let doc = document.doc();
@@ -69,8 +71,9 @@ fn laid<'a>(
     style: Style,
 ) -> Result<String, FormatError>
     requires { AreSound (toml_lexemes_of text.now) }
-    ensures ok { IfOk result (λ layout. statements (string_bytes layout) ≡ statements text.now) }
-    ensures err { IfErr result IsRefusal }
+    ensures ok { IfOk result (λ layout. IsTomlLayout text.now (string_bytes layout)) }
+    ensures shallow { OnOk result (is_too_deep text.now ≡ false) }
+    ensures err { IfErr result (IsRefusalOf text.now) }
 {
     let document = document(arena, text, style)?;
     rendered(&document, alloc, options(text, style))
@@ -79,21 +82,23 @@ fn laid<'a>(
 /// The same, with the document in an arena of its own.
 fn laid_out(alloc: Global, text: &str, style: Style) -> Result<String, FormatError>
     requires { AreSound (toml_lexemes_of text.now) }
-    ensures ok { IfOk result (λ layout. statements (string_bytes layout) ≡ statements text.now) }
-    ensures err { IfErr result IsRefusal }
+    ensures ok { IfOk result (λ layout. IsTomlLayout text.now (string_bytes layout)) }
+    ensures shallow { OnOk result (is_too_deep text.now ≡ false) }
+    ensures err { IfErr result (IsRefusalOf text.now) }
 {
     let bump = Bump::new(alloc);
     let arena = Arena::new(alloc, &bump);
     laid(&arena, alloc, text, style)
 }
 
-/// The layout of a TOML text in this style. It has the same statements: the same lexemes in the same order, remarks
-/// among them. Three things may differ: line ends in brackets, commas before closing brackets, and remarks before a
-/// comma, which stand after it. Its lines end as the first line of the text does that ends outside of strings. It ends
-/// with a line end, unless it is empty.
+/// The layout of a TOML text in this style. It is TOML too, and has the same statements: the same lexemes in the same
+/// order, remarks among them. Three things may differ: line ends in brackets, commas before closing brackets, and
+/// remarks before a comma, which stand after it. Its lines end as the first line of the text does that ends outside of
+/// strings. It ends with a line end, unless it is empty.
 ///
-/// `NotToml` only where the text is no TOML, and `TooDeep` only where it is TOML and more than 128 brackets are in one another.
-/// `Memory` where memory is refused, whatever the text is. No clause speaks of the layout's line ends, nor of the 128.
+/// `NotToml` only where the text is no TOML, and `TooDeep` only where it is TOML and more than 128 brackets are in one
+/// another. `LayoutNotToml` only where the layout that was made is no TOML, which is judged before it is answered.
+/// `Memory` where memory is refused, whatever the text is. No clause speaks of the layout's line ends.
 ///
 /// ```
 /// formatted(alloc, "a=1", Style::default())? // "a = 1\n"
@@ -106,7 +111,11 @@ pub fn formatted(alloc: Global, text: &str, style: Style) -> Result<String, Form
         Some(_) => Err(FormatError::NotToml),
         None => {
             law_closed_strings();
-            laid_out(alloc, text, style)
+            let layout = laid_out(alloc, text, style)?;
+            match fault_of(alloc, layout.as_str())? {
+                Some(_) => Err(FormatError::LayoutNotToml),
+                None => Ok(layout),
+            }
         }
     }
 }

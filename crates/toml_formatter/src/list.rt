@@ -2,7 +2,8 @@
 ghost use Rattle.std.specs.Prelude.{◌≡◌, ◌++◌, ◌≤◌, ◌∷◌, [], ℕ, List, length, true, false, IfOk, IfErr, OnOk};
 ghost use Rattle.prettyless.specs.Trees.{ref_tree};
 ghost use Rattle.toml_lexemes.specs.View.{toml_text_of, HasTomlKind};
-ghost use Rattle.toml_formatter.specs.Errors.{IsRefusal};
+ghost use Rattle.toml_formatter.specs.Depths.{TakesWithin};
+ghost use Rattle.toml_formatter.specs.Errors.{IsFormatMemory, IsRefusalWithin};
 ghost use Rattle.toml_formatter.specs.Gaps.{is_nested};
 ghost use Rattle.toml_formatter.specs.Kinds.{is_closing, is_opening, last_after, IsPart};
 ghost use Rattle.toml_formatter.specs.Lexing.{ClosesNext};
@@ -41,7 +42,7 @@ fn closed<'a>(
     ensures made { IfOk result (λ p. (left taken : List (List ℕ)) → IsSound (toml_text_of close.entry) left
         → ShowsTaken true true line.entry (toml_text_of close.entry ∷ left) taken
         → IsValue (last_after bracket.entry) (toml_text_of bracket.entry) left (taken ++ toml_text_of close.entry ∷ []) (ref_tree p)) }
-    ensures err { IfErr result IsRefusal }
+    ensures err { IfErr result IsFormatMemory }
 {
     let arena = setting.arena;
     let line = line.closed(arena, kind)?;
@@ -65,7 +66,7 @@ fn unclosed<'a>(
     requires { is_opening bracket ≡ true }
     ensures made { IfOk result (λ p. (taken : List (List ℕ)) → ShowsTaken true true line.entry [] taken
         → IsValue (last_after bracket.entry) (toml_text_of bracket.entry) [] taken (ref_tree p)) }
-    ensures err { IfErr result IsRefusal }
+    ensures err { IfErr result IsFormatMemory }
 {
     let arena = setting.arena;
     let line = line.settled(arena)?;
@@ -88,7 +89,8 @@ pub(crate) fn value<'a>(
     ensures made { IfOk result (λ p.
         TakesValue (last_after first.entry) (toml_text_of first.entry) lexemes.old lexemes.new (ref_tree p)) }
     ensures fewer { OnOk result (length lexemes.new ≤ length lexemes.old) }
-    ensures err { IfErr result IsRefusal }
+    ensures within { OnOk result (TakesWithin depth (toml_text_of first.entry ∷ lexemes.old) lexemes.new) }
+    ensures err { IfErr result (IsRefusalWithin depth (toml_text_of first.entry ∷ lexemes.old)) }
 {
     if !opens(first) {
         return Ok(lexeme(setting.arena, first.text())?);
@@ -116,7 +118,8 @@ fn inside<'a>(
     ensures made { IfOk result (λ line. TakesLine line lexemes.old lexemes.new) }
     ensures closing { OnOk result (ClosesNext lexemes.new) }
     ensures fewer { OnOk result (length lexemes.new ≤ length lexemes.old) }
-    ensures err { IfErr result IsRefusal }
+    ensures within { OnOk result (TakesWithin depth lexemes.old lexemes.new) }
+    ensures err { IfErr result (IsRefusalWithin depth lexemes.old) }
 {
     let mut line = Line::new(setting.arena)?;
     while let Some(next) = lexemes.next_inside() {
@@ -144,7 +147,8 @@ fn with_next<'a>(
         → (more : List (List ℕ)) × (toml_text_of next.entry ∷ lexemes.old ≡ more ++ lexemes.new)
         × ShowsTaken true true made lexemes.new (taken ++ more)) }
     ensures fewer { OnOk result (length lexemes.new ≤ length lexemes.old) }
-    ensures err { IfErr result IsRefusal }
+    ensures within { OnOk result (TakesWithin depth (toml_text_of next.entry ∷ lexemes.old) lexemes.new) }
+    ensures err { IfErr result (IsRefusalWithin depth (toml_text_of next.entry ∷ lexemes.old)) }
 {
     match next {
         Lexeme::LineEnd => Ok(line.with_line_end()),

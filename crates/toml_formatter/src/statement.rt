@@ -2,7 +2,9 @@
 ghost use Rattle.std.specs.Prelude.{◌≡◌, ◌∷◌, ◌++◌, ◌≤◌, [], ℕ, List, length, false, true, IfOk, IfErr, OnOk};
 ghost use Rattle.prettyless.specs.Trees.{ref_tree};
 ghost use Rattle.toml_lexemes.specs.View.{toml_text_of, HasTomlKind};
-ghost use Rattle.toml_formatter.specs.Errors.{IsRefusal};
+ghost use Rattle.toml_grammar.specs.Nesting.{max_brackets};
+ghost use Rattle.toml_formatter.specs.Depths.{TakesWithin};
+ghost use Rattle.toml_formatter.specs.Errors.{IsFormatMemory, IsRefusalWithin};
 ghost use Rattle.toml_formatter.specs.Kinds.{is_closing};
 ghost use Rattle.toml_statements.specs.Sound.{IsSound, LineEndsNext};
 ghost use Rattle.toml_formatter.specs.Lines.{TakesMore, ShowsTaken, MayGoOn, TakesStatement};
@@ -30,7 +32,7 @@ fn with_closing<'a>(
         → ShowsTaken false true line.entry (toml_text_of bracket.entry ∷ left) taken
         → ShowsTaken false true made left (taken ++ toml_text_of bracket.entry ∷ [])) }
     ensures goes_on { IfOk result (λ made. TakesMore false made) }
-    ensures err { IfErr result IsRefusal }
+    ensures err { IfErr result IsFormatMemory }
 {
     let line = line.closed(setting.arena, Kind::Statement)?;
     let bracket = text(setting.arena, bracket.text())?;
@@ -51,7 +53,8 @@ fn begun<'a>(
         × ShowsTaken false true made lexemes.new more) }
     ensures goes_on { IfOk result (λ made. MayGoOn made lexemes.new) }
     ensures fewer { OnOk result (length lexemes.new ≤ length lexemes.old) }
-    ensures err { IfErr result IsRefusal }
+    ensures within { OnOk result (TakesWithin max_brackets (toml_text_of first.entry ∷ lexemes.old) lexemes.new) }
+    ensures err { IfErr result (IsRefusalWithin max_brackets (toml_text_of first.entry ∷ lexemes.old)) }
 {
     let arena = setting.arena;
     if closes(first) {
@@ -85,7 +88,8 @@ fn with_next<'a>(
         × ShowsTaken false true made lexemes.new (taken ++ more)) }
     ensures goes_on { IfOk result (λ made. MayGoOn made lexemes.new) }
     ensures fewer { OnOk result (length lexemes.new ≤ length lexemes.old) }
-    ensures err { IfErr result IsRefusal }
+    ensures within { OnOk result (TakesWithin max_brackets (toml_text_of next.entry ∷ lexemes.old) lexemes.new) }
+    ensures err { IfErr result (IsRefusalWithin max_brackets (toml_text_of next.entry ∷ lexemes.old)) }
 {
     let arena = setting.arena;
     let kind = Kind::Statement;
@@ -113,7 +117,8 @@ pub(crate) fn statement<'a>(
     requires no_line_end { LineEndsNext (toml_text_of first ∷ lexemes.old) → ⊥ }
     ensures made { IfOk result (λ p. TakesStatement (toml_text_of first.entry ∷ lexemes.old) lexemes.new (ref_tree p)) }
     ensures fewer { OnOk result (length lexemes.new ≤ length lexemes.old) }
-    ensures err { IfErr result IsRefusal }
+    ensures within { OnOk result (TakesWithin max_brackets (toml_text_of first.entry ∷ lexemes.old) lexemes.new) }
+    ensures err { IfErr result (IsRefusalWithin max_brackets (toml_text_of first.entry ∷ lexemes.old)) }
 {
     let mut line = begun(setting, lexemes, first)?;
     while let Some(next) = lexemes.next_on_line() {

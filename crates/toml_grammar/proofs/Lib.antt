@@ -1,2 +1,4 @@
+mod Cuts
 mod Steps
 pub mod Allowed
+pub mod Depths

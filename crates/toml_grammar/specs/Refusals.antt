@@ -3,6 +3,7 @@ use Rattle.std.specs.Prelude.{◌≡◌, ℕ, List, take, Option, Some, None, co
 use Rattle.text_places.specs.Places.{IsPlace}
 use Rattle.toml_grammar.specs.Expected.{expected_name}
 use Rattle.toml_grammar.specs.Faults.{IsFault}
+use Rattle.toml_grammar.specs.Nesting.{IsTooDeepAt}
 use Rattle.toml_grammar.specs.declared.fault.Fault.{Fault}
 use Rattle.toml_lexemes.specs.declared.lexeme.Lexeme.{Lexeme}
 use Rattle.toml_grammar.specs.declared.refusal.Found.{Found}
@@ -25,3 +26,11 @@ pub record NamesFault (text : List ℕ) (refusal : Refusal) : Type 0 where
 -- what is said of a text that is TOML
 abbrev pub nesting : List ℕ
 nesting = codes "at most 128 levels of nesting"
+
+-- The refusal names the first bracket of the text that is too deep within others.
+pub record NamesBracket (text : List ℕ) (refusal : Refusal) : Type 0 where
+  pub offset : ℕ
+  pub bracket : Option Lexeme
+  pub is : IsTooDeepAt text offset bracket
+  pub place : IsPlace (take offset text) refusal.place
+  pub found : refusal.found ≡ found_of bracket

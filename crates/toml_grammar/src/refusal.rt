@@ -4,7 +4,8 @@ ghost use Rattle.std.specs.Str.{IsUtf8};
 ghost use Rattle.text_places.specs.Places.{IsPlace, IsPlaceWithin};
 ghost use Rattle.toml_grammar.specs.Expected.{expected_name};
 ghost use Rattle.toml_grammar.specs.Grammar.{is_toml};
-ghost use Rattle.toml_grammar.specs.Refusals.{NamesFault, found_of, nesting};
+ghost use Rattle.toml_grammar.specs.Nesting.{is_too_deep};
+ghost use Rattle.toml_grammar.specs.Refusals.{NamesBracket, NamesFault, found_of, nesting};
 
 use crate::fault::{Fault, fault_of};
 use crate::nesting::too_deep;
@@ -63,6 +64,7 @@ fn by_fault<'t>(bytes: &[u8], fault: Fault<'t>) -> Refusal<'t>
 fn by_depth(text: &str) -> Refusal<'_>
     ensures place { IsPlaceWithin text.now result.place }
     ensures expected { result.expected.now ≡ nesting }
+    ensures bracket { is_too_deep text.now ≡ true → NamesBracket text.now result }
 {
     let (offset, found) = too_deep(text);
     Refusal {
@@ -77,6 +79,8 @@ fn refusal_in<'t>(alloc: Global, text: &'t str) -> Result<Refusal<'t>, AllocErro
     ensures place { IfOk result (λ refusal. IsPlaceWithin text.now refusal.place) }
     ensures fault { IfOk result (λ refusal. is_toml text.now ≡ false → NamesFault text.now refusal) }
     ensures depth { IfOk result (λ refusal. is_toml text.now ≡ true → refusal.expected.now ≡ nesting) }
+    ensures bracket { IfOk result (λ refusal. is_toml text.now ≡ true → is_too_deep text.now ≡ true
+        → NamesBracket text.now refusal) }
 {
     match fault_of(alloc, text)? {
         Some(fault) => Ok(by_fault(text.as_bytes(), fault)),
@@ -93,6 +97,8 @@ pub fn refusal_of<'t>(alloc: Global, bytes: &'t [u8]) -> Result<Refusal<'t>, All
     ensures encoding { ¬ (IsUtf8 bytes.now) → IfOk result (λ refusal. refusal.expected.now ≡ codes "UTF-8") }
     ensures fault { IsUtf8 bytes.now → IfOk result (λ refusal. is_toml bytes.now ≡ false → NamesFault bytes.now refusal) }
     ensures depth { IsUtf8 bytes.now → IfOk result (λ refusal. is_toml bytes.now ≡ true → refusal.expected.now ≡ nesting) }
+    ensures bracket { IsUtf8 bytes.now → IfOk result (λ refusal. is_toml bytes.now ≡ true → is_too_deep bytes.now ≡ true
+        → NamesBracket bytes.now refusal) }
 {
     match from_utf8(bytes) {
         Ok(text) => refusal_in(alloc, text),

@@ -16,7 +16,7 @@ use formatter_files::formatter::{Formatter, LayoutError, Verdict};
 use formatter_files::message::{say_expected, say_word};
 use std::fs::Files;
 use std::io;
-use std::io::Write;
+use std::io::{ErrorKind, Write};
 use std::process::ExitCode;
 use std::rt::Env;
 use std::str::from_utf8;
@@ -43,6 +43,12 @@ fn refuse<R: AllocGlobal + Eprint>(rt: &R, name: &str, bytes: &[u8]) -> io::Resu
     say_expected(rt, name, refusal.place, refusal.expected)?;
     say_found(rt, refusal.found)?;
     eprintln!(rt)
+}
+
+// A layout that was made is no TOML, and so it is not written.
+fn bad_layout() -> io::Error {
+    let error = "the layout is no TOML, which is a fault of tomlfmt";
+    io::Error::new(ErrorKind::InvalidData, error)
 }
 
 // Writes a layout that is made.
@@ -81,6 +87,7 @@ impl Formatter for Toml {
             match formatted(rt.alloc(), text, self.0) {
                 Ok(layout) => return write(writer, layout.as_str()),
                 Err(FormatError::NotToml | FormatError::TooDeep) => {}
+                Err(FormatError::LayoutNotToml) => return Err(LayoutError::Text(bad_layout())),
                 Err(FormatError::Memory(error)) => {
                     return Err(LayoutError::Text(io::Error::from(error)));
                 }

@@ -3,7 +3,6 @@ use crate::hostile::writer::{Fault, Step, Writer, Wrong};
 use prettyless::{
     Doc, DocPtr, FmtWrite, IoWrite, OpaqueWriter, RenderError, RenderOptions, Visits,
 };
-use prettyless_printer::render::render_over_table;
 use std::alloc::{AllocError, Global};
 use std::fmt::Write;
 use std::{fmt, io};
@@ -12,8 +11,8 @@ use std::{fmt, io};
 #[derive(Clone, Copy)]
 pub enum SinkCall {
     RawWith,
+    Observed,
     Counted,
-    OverTable,
     Raw,
 }
 
@@ -46,8 +45,8 @@ pub enum Call {
 /// All of them.
 pub const CALLS: &[Call] = &[
     Call::Sink(SinkCall::RawWith),
+    Call::Sink(SinkCall::Observed),
     Call::Sink(SinkCall::Counted),
-    Call::Sink(SinkCall::OverTable),
     Call::Sink(SinkCall::Raw),
     Call::Bytes(WriterCall::RawWith),
     Call::Bytes(WriterCall::With),
@@ -66,8 +65,8 @@ impl Call {
     pub fn name(self) -> &'static str {
         match self {
             Call::Sink(SinkCall::RawWith) => "render_raw_with of a sink",
+            Call::Sink(SinkCall::Observed) => "render_raw_observed_with of a sink",
             Call::Sink(SinkCall::Counted) => "render_raw_counted_with of a sink",
-            Call::Sink(SinkCall::OverTable) => "render_over_table of a sink",
             Call::Sink(SinkCall::Raw) => "render_raw of a sink",
             Call::Bytes(WriterCall::RawWith) => "render_raw_with of IoWrite",
             Call::Bytes(WriterCall::With) => "render_with of a writer",
@@ -154,10 +153,12 @@ impl<'a, T: DocPtr<'a>> Laying<'_, 'a, T> {
         let mut visits = Visits::default();
         match call {
             SinkCall::RawWith => document.render_raw_with(alloc, options, sink),
+            SinkCall::Observed => {
+                document.render_raw_observed_with(alloc, options, sink, &mut visits)
+            }
             SinkCall::Counted => {
                 document.render_raw_counted_with(alloc, options, sink, &mut visits)
             }
-            SinkCall::OverTable => render_over_table(alloc, document, options, sink, &mut visits),
             SinkCall::Raw => document.render_raw(alloc, options.width, sink),
         }
     }

@@ -7,4 +7,6 @@ returns-in-Ok c =
       place = c.in-Ok.ensures.place;
       name = rw c.name.ensures at c.put_name.ensures;
       encoding = c.in-Ok.ensures.encoding;
+      no_utf8 = c.in-Ok.ensures.no_utf8;
+      stop = c.in-Ok.ensures.stop;
     }

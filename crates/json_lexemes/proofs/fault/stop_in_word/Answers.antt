@@ -12,7 +12,8 @@ held p None = p
 held p (Some q) = q
 
 -- the value that a word begins with
-found : (b : Bool) (n m : ℕ) (e f g : Expected) → ◌≡◌ {A = Option (ℕ × Expected)} (Some (m, f)) (cond b (Some (n, e)) None) → (m ≡ cond b n 0) × (f ≡ cond b e g)
+found : (b : Bool) (n m : ℕ) (e f g : Expected)
+    → ◌≡◌ {A = Option (ℕ × Expected)} (Some (m, f)) (cond b (Some (n, e)) None) → (m ≡ cond b n 0) × (f ≡ cond b e g)
 found true n m e f g h = (ap (λ (o : Option (ℕ × Expected)). (held (n, e) o).0) h, ap (λ (o : Option (ℕ × Expected)). (held (n, e) o).1) h)
 found false n m e f g h = absurd (cc)
 
@@ -24,5 +25,6 @@ returns-in-Some c = λ same.
     let h : ◌≡◌ {A = Option (ℕ × Expected)} (Some (c.in-Some.len, c.in-Some.expected))
     (cond begins (Some (length (plain_front word), after_value (innermost_bracket r.open_brackets))) None) =
     cc (c.in_ok-len.ensures, c.in-Some.is) in
-    let w = found begins (length (plain_front word)) c.in-Some.len (after_value (innermost_bracket r.open_brackets)) c.in-Some.expected r.next h in
+    let w =
+    found begins (length (plain_front word)) c.in-Some.len (after_value (innermost_bracket r.open_brackets)) c.in-Some.expected r.next h in
     (c.in-Some.len, omega (arith, w.0, front_within begins word, c.saturating_add.ensures), w)

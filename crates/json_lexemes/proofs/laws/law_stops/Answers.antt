@@ -1,4 +1,5 @@
-use Rattle.json_lexemes.proofs.Begun.{fronts_begin, texts_begin}
+use Rattle.json_lexemes.proofs.Begun.{fronts_begin, strings_begin, texts_begin}
+use Rattle.json_lexemes.proofs.Content.{stops_once}
 use Rattle.json_lexemes.proofs.Stopped.{ends_too_soon, none_goes_on, whole_texts}
 use Rattle.json_lexemes.proofs.laws.law_stops.Goals as goal
 
@@ -16,3 +17,9 @@ returns-clause-front c = fronts_begin
 
 pub returns-clause-all : goal.returns-clause-all
 returns-clause-all c = texts_begin
+
+pub returns-clause-string : goal.returns-clause-string
+returns-clause-string c = stops_once
+
+pub returns-clause-inside : goal.returns-clause-inside
+returns-clause-inside c = strings_begin

@@ -1,27 +1,10 @@
 use Rattle.std.proofs.Common.{ap, arith}
 use Rattle.prettyless_printer.specs.Points.{buffer_seen, point, seen, standing}
 use Rattle.prettyless_printer.specs.Open.{all_held, seconds}
-use Rattle.prettyless_printer.proofs.Shifted.{comes_first, comes_still}
-use Rattle.prettyless_printer.proofs.ShiftSpending.{all_over, no_room, within_start}
+use Rattle.prettyless_printer.proofs.Shifted.{comes_first, ends_still}
+use Rattle.prettyless_printer.proofs.ShiftSpending.{all_over, few_more, few_still, no_room, within_start}
 use Rattle.prettyless_printer.proofs.RunSpending.{from_none}
 use Rattle.prettyless_printer.proofs.shift.run_over_table.Goals as goal
-
--- at a width without summaries
-pub finish-requires-clause-comes : goal.finish-requires-clause-comes
-finish-requires-clause-comes g c =
-    let f = g.N.Walk.tree in
-    let sink = seen g.W.Render.bytes g.W.Render.failures g.W.Render.lender in
-    let start = point f c.args.printer.now (sink c.args.out.now) c.args.visits.now in
-    let first = comes_first f c.new-trials.result.open.items (buffer_seen c.new-buffer.result) start c.new-trials.ensures in
-    (start, first)
-
-pub returns-then-not-can_shift-clause-ends : goal.returns-then-not-can_shift-clause-ends
-returns-then-not-can_shift-clause-ends g c =
-    let f = g.N.Walk.tree in
-    let sink = seen g.W.Render.bytes g.W.Render.failures g.W.Render.lender in
-    let start = point f c.args.printer.now (sink c.args.out.now) c.args.visits.now in
-    let first = comes_first f c.new-trials.result.open.items (buffer_seen c.new-buffer.result) start c.new-trials.ensures in
-    (standing f c.finish.new.printer, c.finish.ensures.ends start first)
 
 pub shift-requires : goal.shift-requires
 shift-requires g c =
@@ -46,68 +29,56 @@ returns-in-Ok-Some-clause-few g c = λ linear none.
     let sink = seen g.W.Render.bytes g.W.Render.failures g.W.Render.lender in
     let start = point f c.args.printer.now (sink c.args.out.now) c.args.visits.now in
     let first = comes_first f c.new-trials.result.open.items (buffer_seen c.new-buffer.result) start c.new-trials.ensures in
+    few_more _ c.args.visits.now c.shift.new.visits (all_over linear
+    (from_none (standing f c.args.printer.now) (all_held f c.new-trials.result.open.items) c.args.visits.now
+    (ap (all_held f) c.new-trials.ensures)
+    ((rw c.in-Ok-Some.field-0-is at c.in-Ok-Some.ensures.spends) start first linear.plain)))
+
+pub returns-in-Ok-Some-clause-twice : goal.returns-in-Ok-Some-clause-twice
+returns-in-Ok-Some-clause-twice g c = λ linear small none.
+    let f = g.N.Walk.tree in
+    let sink = seen g.W.Render.bytes g.W.Render.failures g.W.Render.lender in
+    let start = point f c.args.printer.now (sink c.args.out.now) c.args.visits.now in
+    let first = comes_first f c.new-trials.result.open.items (buffer_seen c.new-buffer.result) start c.new-trials.ensures in
     all_over linear
     (from_none (standing f c.args.printer.now) (all_held f c.new-trials.result.open.items) c.args.visits.now
     (ap (all_held f) c.new-trials.ensures)
     ((rw c.in-Ok-Some.field-0-is at c.in-Ok-Some.ensures.spends) start first linear.plain))
 
--- no table had room
-pub finish-requires-in-Ok-None-clause-comes : goal.finish-requires-in-Ok-None-clause-comes
-finish-requires-in-Ok-None-clause-comes g c =
-    let f = g.N.Walk.tree in
-    let sink = seen g.W.Render.bytes g.W.Render.failures g.W.Render.lender in
-    let start = point f c.args.printer.now (sink c.args.out.now) c.args.visits.now in
-    let first = comes_first f c.new-trials.result.open.items (buffer_seen c.new-buffer.result) start c.new-trials.ensures in
-    let same = (rw c.in-Ok-None.field-0-is at c.in-Ok-None.ensures.same) tt in
-    let comes = comes_still start (all_held f c.new-trials.result.open.items) (standing f c.args.printer.now) (ap sink same.0) same.1
-    (ap buffer_seen same.2) first in
-    (start, comes)
-
+-- there are too many nodes for that table
 pub returns-in-Ok-None-clause-ends : goal.returns-in-Ok-None-clause-ends
 returns-in-Ok-None-clause-ends g c =
-    let f = g.N.Walk.tree in
-    let sink = seen g.W.Render.bytes g.W.Render.failures g.W.Render.lender in
-    let start = point f c.args.printer.now (sink c.args.out.now) c.args.visits.now in
-    let first = comes_first f c.new-trials.result.open.items (buffer_seen c.new-buffer.result) start c.new-trials.ensures in
     let same = (rw c.in-Ok-None.field-0-is at c.in-Ok-None.ensures.same) tt in
-    let comes = comes_still start (all_held f c.new-trials.result.open.items) (standing f c.args.printer.now) (ap sink same.0) same.1
-    (ap buffer_seen same.2) first in
-    (standing f c.finish-in-Ok-None.new.printer, c.finish-in-Ok-None.ensures.ends start comes)
+    let sink = seen g.W.Render.bytes g.W.Render.failures g.W.Render.lender in
+    ends_still (standing g.N.Walk.tree c.args.printer.now) (ap sink same.0) same.1 c.run_with_shift-in-Ok-None.ensures.ends
 
 pub returns-in-Ok-None-clause-few : goal.returns-in-Ok-None-clause-few
 returns-in-Ok-None-clause-few g c = λ linear none.
+    let same = (rw c.in-Ok-None.field-0-is at c.in-Ok-None.ensures.same) tt in
+    few_still 16 1000 _ c.run_with_shift-in-Ok-None.new.visits same.1 (c.run_with_shift-in-Ok-None.ensures.few linear none)
+
+pub returns-in-Ok-None-clause-twice : goal.returns-in-Ok-None-clause-twice
+returns-in-Ok-None-clause-twice g c = λ linear small none.
     let f = g.N.Walk.tree in
     let us = all_held f c.new-trials.result.open.items in
     let now = within_start (standing f c.args.printer.now) us c.args.visits.now (ap (all_held f) c.new-trials.ensures) linear in
     absurd (omega (
       arith,
-      linear.size,
-      no_room f c.args.printer.now (seconds us) 18446744073709551615 _ c.args.visits.now now.queue now.left
+      small,
+      no_room f c.args.printer.now (seconds us) 1048576 _ c.args.visits.now now.queue now.left
           linear.size (rw c.in-Ok-None.field-0-is at c.in-Ok-None.ensures.large),
     ))
 
--- a table was refused memory
-pub finish-requires-in-Err-clause-comes : goal.finish-requires-in-Err-clause-comes
-finish-requires-in-Err-clause-comes g c =
-    let f = g.N.Walk.tree in
-    let sink = seen g.W.Render.bytes g.W.Render.failures g.W.Render.lender in
-    let start = point f c.args.printer.now (sink c.args.out.now) c.args.visits.now in
-    let first = comes_first f c.new-trials.result.open.items (buffer_seen c.new-buffer.result) start c.new-trials.ensures in
-    let same = (rw c.in-Err.is at c.shift.ensures.same) tt in
-    let comes = comes_still start (all_held f c.new-trials.result.open.items) (standing f c.args.printer.now) (ap sink same.0) same.1
-    (ap buffer_seen same.2) first in
-    (start, comes)
-
+-- that table was refused memory
 pub returns-clause-ends : goal.returns-clause-ends
 returns-clause-ends g c =
-    let f = g.N.Walk.tree in
-    let sink = seen g.W.Render.bytes g.W.Render.failures g.W.Render.lender in
-    let start = point f c.args.printer.now (sink c.args.out.now) c.args.visits.now in
-    let first = comes_first f c.new-trials.result.open.items (buffer_seen c.new-buffer.result) start c.new-trials.ensures in
     let same = (rw c.in-Err.is at c.shift.ensures.same) tt in
-    let comes = comes_still start (all_held f c.new-trials.result.open.items) (standing f c.args.printer.now) (ap sink same.0) same.1
-    (ap buffer_seen same.2) first in
-    (standing f c.finish-in-Err.new.printer, c.finish-in-Err.ensures.ends start comes)
+    let sink = seen g.W.Render.bytes g.W.Render.failures g.W.Render.lender in
+    ends_still (standing g.N.Walk.tree c.args.printer.now) (ap sink same.0) same.1 c.run_with_shift-in-Err.ensures.ends
 
 pub returns-clause-few : goal.returns-clause-few
-returns-clause-few g c = λ linear none. absurd (omega (arith, none, c.one_more.ensures.one))
+returns-clause-few g c = λ linear none. absurd (omega (arith, none, c.one_more.ensures.one, c.run_with_shift-in-Err.ensures.rises))
+
+pub returns-clause-twice : goal.returns-clause-twice
+returns-clause-twice g c = λ linear small none. absurd
+    (omega (arith, none, c.one_more.ensures.one, c.run_with_shift-in-Err.ensures.rises))

@@ -1,28 +1,38 @@
-use Rattle.std.proofs.Common.{◌≡◌, refl, sym, ◌∙◌, ap, subst, true, Bool, List, [], ◌∷◌, ◌++◌, ℕ, append_assoc}
-use Rattle.std.proofs.lemmas.Result.{IfOk-weaker}
+use Rattle.std.proofs.Common.{◌≡◌, refl, sym, ◌∙◌, ap, subst, true, Bool, List, [], ◌∷◌, ◌++◌, ℕ, append_assoc, arith}
+use Rattle.std.proofs.lemmas.Result.{IfErr-weaker, IfOk-weaker}
+use Rattle.toml_grammar.specs.Nesting.{nest_too_deep}
 use Rattle.prettyless.specs.Trees.{ref_tree}
 use Rattle.toml_lexemes.specs.Bytes.{comma, line_feed}
 use Rattle.toml_lexemes.specs.View.{toml_text_of}
 use Rattle.toml_formatter.specs.Gaps.{is_nested}
+use Rattle.toml_formatter.specs.Kinds.{is_opening}
+use Rattle.toml_formatter.specs.Errors.{IsRefusalWithin}
+use Rattle.toml_formatter.specs.declared.error.FormatError.TheVariants.{TooDeep}
+use Rattle.toml_formatter.proofs.DepthLemmas.{bracket_refused, closed_within, ended_within, list_refused, memory_within, next_within}
+use Rattle.toml_formatter.proofs.DepthLemmas.{of_memory, part_within, passed_on, plain_within, refused_after}
 use Rattle.toml_formatter.proofs.Values.{part_alone}
-use Rattle.toml_formatter.specs.Lines.{ShowsTaken}
+use Rattle.toml_formatter.specs.Lines.{ShowsTaken, TakesLine}
 use Rattle.toml_formatter.proofs.list.+value.Goals as goal
 
 pub inside-loop-next-preserved : goal.inside-loop-next-preserved
 inside-loop-next-preserved t c =
-    let before = c.loop-next.invariant in
+    let before = c.loop-next.invariant.0 in
     let s = toml_text_of c.in-Some.next in
     let left = c.next_inside.new.self in
     let h = subst (λ (ss : List (List ℕ)). ShowsTaken true true c.loop-next.line ss before.0) c.in-Some.ensures.some.0 before.2 in
-    let made = c.in_ok-line-2.ensures.made before.0 h in (
+    let made = c.in_ok-line-2.ensures.made before.0 h in
+    let line : TakesLine c.in_ok-line-2.line c.args.lexemes.now c.with_next.new.lexemes = (
       before.0 ++ made.0,
       before.1 ∙ ap (λ (ss : List (List ℕ)). before.0 ++ ss) (c.in-Some.ensures.some.0 ∙ made.1)
           ∙ sym (append_assoc before.0 made.0 c.with_next.new.lexemes),
       made.2,
-    )
+    ) in
+    (line, next_within c.args.depth c.args.lexemes.now c.with_next.new.lexemes c.loop-next.invariant.1 c.in-Some.ensures.some.0 c.in_ok-line-2.ensures.within)
 
 pub inside-loop-next-init : goal.inside-loop-next-init
-inside-loop-next-init t c = ([], refl, c.in_ok-line.ensures c.args.lexemes.now)
+inside-loop-next-init t c =
+    let line : TakesLine c.in_ok-line.line c.args.lexemes.now c.args.lexemes.now = ([], refl, c.in_ok-line.ensures c.args.lexemes.now) in
+    (line, λ n h. refl)
 
 pub value-returns-then-not-opens-clause-made : goal.value-returns-then-not-opens-clause-made
 value-returns-then-not-opens-clause-made t c = (
@@ -31,6 +41,10 @@ value-returns-then-not-opens-clause-made t c = (
   part_alone c.args.first c.text.result.now c.args.lexemes.now (ref_tree c.in_ok-lexeme.field-0) c.requires.named c.requires.part
       (sym c.opens.ensures ∙ c.if-not-opens.true) c.text.ensures c.in_ok-lexeme.ensures,
 )
+
+pub value-returns-then-not-opens-clause-within : goal.value-returns-then-not-opens-clause-within
+value-returns-then-not-opens-clause-within t c =
+    part_within c.args.first c.requires.named c.requires.part (sym c.opens.ensures ∙ c.if-not-opens.true) c.args.depth c.args.lexemes.now
 
 pub value-returns-in-Some-clause-made : goal.value-returns-in-Some-clause-made
 value-returns-in-Some-clause-made t c =
@@ -54,6 +68,18 @@ with_next-returns-in-LineEnd-clause-made t c = λ taken h.
       ap (λ (s : List ℕ). s ∷ ls) e,
       c.with_line_end.ensures ls taken (subst (λ (s : List ℕ). ShowsTaken true true c.args.line (s ∷ ls) taken) e h),
     )
+
+pub with_next-returns-in-LineEnd-clause-within : goal.with_next-returns-in-LineEnd-clause-within
+with_next-returns-in-LineEnd-clause-within t c =
+    plain_within c.args.next c.requires.named (ap is_opening c.in-LineEnd.is) c.requires.part c.args.depth c.args.lexemes.now
+
+pub with_next-returns-in_ok-with_comma-in-Comma-clause-within : goal.with_next-returns-in_ok-with_comma-in-Comma-clause-within
+with_next-returns-in_ok-with_comma-in-Comma-clause-within t c =
+    plain_within c.args.next c.requires.named (ap is_opening c.in-Comma.is) c.requires.part c.args.depth c.args.lexemes.now
+
+pub with_next-returns-in_ok-with_remark-in-Remark-clause-within : goal.with_next-returns-in_ok-with_remark-in-Remark-clause-within
+with_next-returns-in_ok-with_remark-in-Remark-clause-within t c =
+    plain_within c.args.next c.requires.named (ap is_opening c.in-Remark.is) c.requires.part c.args.depth c.args.lexemes.now
 
 pub with_next-returns-in_ok-with_comma-in-Comma-clause-made : goal.with_next-returns-in_ok-with_comma-in-Comma-clause-made
 with_next-returns-in_ok-with_comma-in-Comma-clause-made t c = λ taken h.
@@ -92,3 +118,61 @@ with_next-returns-in_ok-with_value-in_default-clause-made t c = λ taken h.
           (made.ensures.line left c.args.lexemes.now taken v.0
           (subst (λ (m : Bool). ShowsTaken m true c.args.line (s ∷ c.args.lexemes.now) taken) (sym c.requires.kind) h) v.2),
     )
+
+-- ---- how deep brackets are
+
+pub value-returns-in_err-lexeme-clause-err : goal.value-returns-in_err-lexeme-clause-err
+value-returns-in_err-lexeme-clause-err t c =
+    of_memory _ c.from_residual.result (memory_within c.args.depth (toml_text_of c.args.first ∷ c.args.lexemes.now)) c.from_residual.ensures.1
+
+pub value-returns-then-depth-eq0-clause-err : goal.value-returns-then-depth-eq0-clause-err
+value-returns-then-depth-eq0-clause-err t c =
+    let ss = toml_text_of c.args.first ∷ c.args.lexemes.now in
+    subst (λ (n : ℕ). IsRefusalWithin n ss TooDeep) (sym c.if-depth-eq0.true)
+    (bracket_refused c.args.first (sym c.opens.ensures ∙ c.if-not-opens.false) c.args.lexemes.now)
+
+pub value-returns-in_err-line-clause-err : goal.value-returns-in_err-line-clause-err
+value-returns-in_err-line-clause-err t c =
+    passed_on _ c.from_residual-in_err-line.result c.in_err-line.field-0.0 c.from_residual-in_err-line.ensures.1
+    (list_refused c.args.first (sym c.opens.ensures ∙ c.if-not-opens.false) c.args.depth (omega (arith, c.if-depth-eq0.false))
+    c.args.lexemes.now c.in_err-line.field-0.0 c.in_err-line.ensures.err)
+
+pub value-returns-in-Some-clause-within : goal.value-returns-in-Some-clause-within
+value-returns-in-Some-clause-within t c =
+    let line = c.in_ok-line.ensures in
+    let within = closed_within c.args.first (sym c.opens.ensures ∙ c.if-not-opens.false) c.args.depth (omega (arith, c.if-depth-eq0.false))
+    c.args.lexemes.now (toml_text_of c.in-Some.close) c.next.new.self c.in-Some.ensures.next line.closing line.within in
+    IfOk-weaker c.closed.result _ _ (λ p made. within) c.closed.ensures.made
+
+pub value-returns-in-Some-clause-err : goal.value-returns-in-Some-clause-err
+value-returns-in-Some-clause-err t c =
+    IfErr-weaker c.closed.result _ _ (memory_within c.args.depth (toml_text_of c.args.first ∷ c.args.lexemes.now)) c.closed.ensures.err
+
+pub value-returns-in-None-clause-within : goal.value-returns-in-None-clause-within
+value-returns-in-None-clause-within t c =
+    let none = c.in-None.ensures.next in
+    let within = ended_within c.args.first (sym c.opens.ensures ∙ c.if-not-opens.false) c.args.depth (omega (arith, c.if-depth-eq0.false))
+    c.args.lexemes.now none.0 none.1 c.in_ok-line.ensures.within in
+    IfOk-weaker c.unclosed.result _ _ (λ p made. within) c.unclosed.ensures.made
+
+pub value-returns-in-None-clause-err : goal.value-returns-in-None-clause-err
+value-returns-in-None-clause-err t c =
+    IfErr-weaker c.unclosed.result _ _ (memory_within c.args.depth (toml_text_of c.args.first ∷ c.args.lexemes.now)) c.unclosed.ensures.err
+
+pub inside-returns-in_err-line-clause-err : goal.inside-returns-in_err-line-clause-err
+inside-returns-in_err-line-clause-err t c =
+    of_memory _ c.from_residual.result (memory_within c.args.depth c.args.lexemes.now) c.from_residual.ensures.1
+
+pub inside-returns-in_err-line-2-clause-err : goal.inside-returns-in_err-line-2-clause-err
+inside-returns-in_err-line-2-clause-err t c =
+    passed_on _ c.from_residual-in_err-line-2.result c.in_err-line-2.field-0.0 c.from_residual-in_err-line-2.ensures.1
+    (refused_after c.args.depth c.args.lexemes.now c.in_err-line-2.field-0.0 c.loop-next.invariant.1 c.in-Some.ensures.some.0
+    c.in_err-line-2.ensures.err)
+
+pub inside-returns-clause-within : goal.inside-returns-clause-within
+inside-returns-clause-within t c = λ n h.
+    c.loop-next.invariant.1 n h ∙ ap (λ ss. nest_too_deep n ss) (sym c.in_default.ensures.none)
+
+pub with_next-returns-in_err-with_comma-in-Comma-clause-err : goal.with_next-returns-in_err-with_comma-in-Comma-clause-err
+with_next-returns-in_err-with_comma-in-Comma-clause-err t c =
+    of_memory _ c.from_residual.result (memory_within c.args.depth (toml_text_of c.args.next ∷ c.args.lexemes.now)) c.from_residual.ensures.1

@@ -1,4 +1,5 @@
 use Rattle.std.proofs.Common.{◌+◌, ◌*◌, length}
+use Rattle.toml_formatter.specs.Depths.{TakesWithin}
 use Rattle.toml_formatter.specs.Lines.{TakesLine}
 use Rattle.toml_formatter.proofs.list.+value.Given as goal
 
@@ -12,9 +13,9 @@ decreases-with_next l = 3 * l.depth + 1
 abbrev pub decreases-value : goal.decreases-value
 decreases-value l = 3 * l.depth
 
--- the line has the lexemes that were taken
+-- the line has the lexemes that were taken, which are not too deep
 abbrev pub invariant-inside-loop-next : goal.invariant-inside-loop-next
-invariant-inside-loop-next l = TakesLine l.line l.fn.lexemes l.lexemes
+invariant-inside-loop-next l = TakesLine l.line l.fn.lexemes l.lexemes × TakesWithin l.depth l.fn.lexemes l.lexemes
 
 abbrev pub decreases-inside-loop-next : goal.decreases-inside-loop-next
 decreases-inside-loop-next l = length l.lexemes

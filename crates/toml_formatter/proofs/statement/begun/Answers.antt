@@ -4,11 +4,13 @@ use Rattle.toml_lexemes.specs.Bytes.{comma}
 use Rattle.toml_lexemes.specs.View.{toml_text_of, HasTomlKind}
 use Rattle.toml_lexemes.specs.declared.lexeme.Lexeme.{Lexeme}
 use Rattle.toml_lexemes.specs.declared.lexeme.Lexeme.TheVariants as lexeme
-use Rattle.toml_formatter.specs.Kinds.{is_closing, last_after}
+use Rattle.toml_grammar.specs.Nesting.{max_brackets}
+use Rattle.toml_formatter.specs.Kinds.{is_closing, is_opening, last_after}
 use Rattle.toml_formatter.specs.Gaps.{is_last_remark}
 use Rattle.toml_statements.specs.Sound.{IsSound}
 use Rattle.toml_formatter.specs.Lines.{ShowsTaken, MayGoOn, begun}
 use Rattle.toml_formatter.specs.declared.line.Line.{Line}
+use Rattle.toml_formatter.proofs.DepthLemmas.{closing_within, plain_within}
 use Rattle.toml_formatter.proofs.LineLemmas.{trimmed_shows}
 use Rattle.toml_formatter.proofs.StatementLemmas.{bracket_begins, comma_begins, part_of, remark_begins, value_begins}
 use Rattle.toml_formatter.proofs.Values.{closing_shows, part_whole, remark_whole, ShowsClosing}
@@ -34,6 +36,18 @@ returns-then-closes-clause-line c =
       subst (λ (l : Line). ShowsTaken false true l ls (toml_text_of x ∷ [])) (sym c.begun.ensures)
           (bracket_begins c.in_ok-bracket.bracket closer),
     )
+
+pub returns-then-closes-clause-within : goal.returns-then-closes-clause-within
+returns-then-closes-clause-within c =
+    closing_within c.args.first (sym c.closes.ensures ∙ c.if-closes.true) c.args.lexemes.now
+
+pub returns-in_ok-text-in-Comma-clause-within : goal.returns-in_ok-text-in-Comma-clause-within
+returns-in_ok-text-in-Comma-clause-within c =
+    plain_within c.args.first c.requires.named (ap is_opening c.in-Comma.is) (ap is_closing c.in-Comma.is) max_brackets c.args.lexemes.now
+
+pub returns-in_ok-text-in-Remark-clause-within : goal.returns-in_ok-text-in-Remark-clause-within
+returns-in_ok-text-in-Remark-clause-within c =
+    plain_within c.args.first c.requires.named (ap is_opening c.in-Remark.is) (ap is_closing c.in-Remark.is) max_brackets c.args.lexemes.now
 
 pub returns-in_ok-text-in-Comma-clause-line : goal.returns-in_ok-text-in-Comma-clause-line
 returns-in_ok-text-in-Comma-clause-line c =

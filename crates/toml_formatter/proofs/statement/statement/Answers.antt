@@ -1,6 +1,9 @@
-use Rattle.std.proofs.Common.{sym, ◌∙◌, ap, subst, true, false, ◌++◌, List, ℕ, inl, inr, append_assoc, append-nil, arith, length}
+use Rattle.std.proofs.Common.{sym, ◌∙◌, ap, subst, true, false, ◌∷◌, ◌++◌, List, ℕ, inl, inr, append_assoc, append-nil, arith, length}
 use Rattle.std.proofs.Common.{length-append}
 use Rattle.toml_formatter.specs.Lines.{ShowsTaken}
+use Rattle.toml_lexemes.specs.View.{toml_text_of}
+use Rattle.toml_grammar.specs.Nesting.{max_brackets, nest_too_deep}
+use Rattle.toml_formatter.proofs.DepthLemmas.{line_end_within, memory_within, next_within, of_memory, passed_on, refused_after}
 use Rattle.toml_formatter.proofs.LineLemmas.{IsSettled}
 use Rattle.toml_formatter.proofs.StatementLemmas.{line_is_statement, may_settle}
 use Rattle.toml_formatter.proofs.statement.statement.Goals as goal
@@ -15,6 +18,7 @@ loop-next-preserved c =
       before.1 ∙ ap (λ (ss : List (List ℕ)). before.0 ++ ss) (e ∙ made.1) ∙ sym (append_assoc before.0 made.0 c.with_next.new.lexemes),
       made.2,
       c.in_ok-line-2.ensures.goes_on,
+      next_within max_brackets (toml_text_of c.args.first ∷ c.args.lexemes.now) c.with_next.new.lexemes before.4 e c.in_ok-line-2.ensures.within,
     )
 
 pub returns-clause-made : goal.returns-clause-made
@@ -40,3 +44,24 @@ returns-clause-fewer c =
       | inl p ↦ omega (arith, ap length p.1)
       | inr p ↦ omega (arith, ap length p, ap length before.1, length-append before.0 c.loop-next.lexemes)
     ]
+
+pub returns-clause-within : goal.returns-clause-within
+returns-clause-within c =
+    let before = c.loop-next.invariant in
+    let left = c.next_on_line.new.self in
+    elim c.in_default.ensures.none [
+      | inl p ↦ λ n h. before.4 n h ∙ ap (λ ss. nest_too_deep n ss) (p.0 ∙ sym p.1)
+      | inr p ↦ next_within max_brackets (toml_text_of c.args.first ∷ c.args.lexemes.now) left before.4 p (line_end_within left)
+    ]
+
+pub returns-in_err-line-2-clause-err : goal.returns-in_err-line-2-clause-err
+returns-in_err-line-2-clause-err c =
+    let e = c.in_err-line-2.field-0.0 in
+    passed_on _ c.from_residual-in_err-line-2.result e c.from_residual-in_err-line-2.ensures.1
+    (refused_after max_brackets (toml_text_of c.args.first ∷ c.args.lexemes.now) e c.loop-next.invariant.4 c.in-Some.ensures.some
+    c.in_err-line-2.ensures.err)
+
+pub returns-in_err-settled-clause-err : goal.returns-in_err-settled-clause-err
+returns-in_err-settled-clause-err c =
+    of_memory _ c.from_residual-in_err-settled.result (memory_within max_brackets (toml_text_of c.args.first ∷ c.args.lexemes.now))
+    c.from_residual-in_err-settled.ensures.1

@@ -4,7 +4,10 @@ use Rattle.toml_lexemes.specs.Bytes.{comma}
 use Rattle.toml_lexemes.specs.View.{toml_text_of, HasTomlKind}
 use Rattle.toml_statements.specs.Sound.{IsSound}
 use Rattle.toml_formatter.specs.Lines.{ShowsTaken}
+use Rattle.toml_grammar.specs.Nesting.{max_brackets}
 use Rattle.toml_formatter.specs.Gaps.{is_last_remark}
+use Rattle.toml_formatter.specs.Kinds.{is_closing, is_opening}
+use Rattle.toml_formatter.proofs.DepthLemmas.{closing_within, plain_within}
 use Rattle.toml_formatter.proofs.StatementLemmas.{part_of}
 use Rattle.toml_formatter.proofs.Values.{remark_whole}
 use Rattle.toml_formatter.proofs.statement.with_next.Goals as goal
@@ -21,6 +24,19 @@ returns-then-closes-clause-line c =
 
 pub returns-then-closes-clause-goes_on : goal.returns-then-closes-clause-goes_on
 returns-then-closes-clause-goes_on c = IfOk-weaker c.with_closing.result _ _ (λ made g. inl g) c.with_closing.ensures.goes_on
+
+pub returns-then-closes-clause-within : goal.returns-then-closes-clause-within
+returns-then-closes-clause-within c =
+    let closing = sym c.closes.ensures ∙ c.if-closes.true in
+    IfOk-weaker c.with_closing.result _ _ (λ made h. closing_within c.args.next closing c.args.lexemes.now) c.with_closing.ensures.line
+
+pub returns-in_ok-with_comma-in-Comma-clause-within : goal.returns-in_ok-with_comma-in-Comma-clause-within
+returns-in_ok-with_comma-in-Comma-clause-within c =
+    plain_within c.args.next c.requires.named (ap is_opening c.in-Comma.is) (ap is_closing c.in-Comma.is) max_brackets c.args.lexemes.now
+
+pub returns-in_ok-with_remark-in-Remark-clause-within : goal.returns-in_ok-with_remark-in-Remark-clause-within
+returns-in_ok-with_remark-in-Remark-clause-within c =
+    plain_within c.args.next c.requires.named (ap is_opening c.in-Remark.is) (ap is_closing c.in-Remark.is) max_brackets c.args.lexemes.now
 
 pub returns-in_ok-with_comma-in-Comma-clause-line : goal.returns-in_ok-with_comma-in-Comma-clause-line
 returns-in_ok-with_comma-in-Comma-clause-line c = λ taken h.

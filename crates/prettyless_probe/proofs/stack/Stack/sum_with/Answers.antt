@@ -1,58 +1,70 @@
-use Rattle.std.proofs.Common.{◌∷◌, ◌+◌, ap, arith, length}
+use Rattle.std.proofs.Common.{◌≡◌, ◌+◌, ◌&&◌, ◌<◌, ◌^◌, ap, arith, length}
 use Rattle.prettyless_model.specs.Tree.{size}
+use Rattle.prettyless_model.specs.declared.mode.Mode.TheVariants.{Break}
+use Rattle.prettyless_summary.specs.Summary.{has_summary}
+use Rattle.prettyless_summary.proofs.Has.{found_none, found_some, only_second}
 use Rattle.prettyless_probe.specs.Stack.{make_task, nodes, stack_of}
 use Rattle.prettyless_probe.proofs.Stacks.{length-stack_of}
-use Rattle.prettyless_probe.proofs.Sums.{have_sum_below, long_all, sum_nothing, sum_own, sum_then, sum_top}
+use Rattle.prettyless_probe.proofs.Sums.{long_all, run_more, run_of_none, sum_nothing, sum_own, sum_then, sum_top}
 use Rattle.prettyless_probe.proofs.stack.Stack.sum_with.Goals as goal
 
 pub returns-in_default : goal.returns-in_default
 returns-in_default g c i m h =
     let f = g.N.Walk.tree in
+    let has = g.N.Walk.HAS_SUMMARIES in
     let s = c.args.self.now in
-    sum_nothing c.nothing.result (c.len-height.result + 1) (make_task i m (f c.args.node.now) ∷ stack_of f s)
-    (omega (arith, length-stack_of f s, s.nodes.ok.0, c.len-height.ensures)) c.nothing.ensures.reads
-    (λ all. c.in_default.ensures.found c.requires all.0.0 (omega (arith, all.1)))
+    let d = f c.args.node.now in
+    sum_nothing c.nothing.result (c.len-height.result + 1) (make_task i m d) (stack_of f s)
+    (omega (arith, length-stack_of f s, s.nodes.ok.0, c.len-height.ensures)) c.nothing.ensures.reads c.nothing.ensures.small
+    (λ few. only_second has (has_summary d Break) c.requires (found_none (has && has_summary d Break) (size d) (c.in_default.ensures.exact few)))
 
 pub returns-in_default-last : goal.returns-in_default-last
 returns-in_default-last g c i m h =
     let f = g.N.Walk.tree in
+    let has = g.N.Walk.HAS_SUMMARIES in
     let s = c.args.self.now in
-    sum_own c.in-Some.own c.len-height.result i m (f c.args.node.now) (stack_of f s)
+    let d = f c.args.node.now in
+    let none : length (stack_of f s) ≡ 0 = omega (
+      arith,
+      long_all has (length s.sums.items) (length s.nodes.items) c.requires h.long,
+      ap length c.deref.ensures.value,
+      c.in_default-last.ensures.item.3,
+      length-stack_of f s,
+    ) in
+    sum_own c.in-Some.own c.len-height.result i m d (stack_of f s)
     (omega (arith, length-stack_of f s, s.nodes.ok.0, c.len-height.ensures)) c.in-Some.ensures.known
-    (λ all. (
-      omega (
-        arith,
-        long_all g.N.Walk.HAS_SUMMARIES (length s.sums.items) (length s.nodes.items) c.requires h.long,
-        s.nodes.ok.0,
-        c.len-height.ensures,
-        ap length c.deref.ensures.value,
-        c.in_default-last.ensures.item.3,
-      ),
-      c.in-Some.ensures.found c.requires all.0.0 (omega (arith, all.1)),
+    (λ few.
+    let own = found_some (has && has_summary d Break) (size d) c.in-Some.own (c.in-Some.ensures.exact (omega (arith, few))) in
+    let more = run_more (make_task i m d) (stack_of f s) (only_second has (has_summary d Break) c.requires own.0) in (
+      omega (arith, ap length more, run_of_none (stack_of f s) none, none, length-stack_of f s, s.nodes.ok.0, c.len-height.ensures),
+      own.1,
     ))
 
 pub returns-in-Some-then : goal.returns-in-Some-then
 returns-in-Some-then g c i m h =
     let f = g.N.Walk.tree in
+    let has = g.N.Walk.HAS_SUMMARIES in
     let s = c.args.self.now in
     let d = f c.args.node.now in
     let b = c.in-Some-last.below.now in
     let item = c.in-Some-last.ensures.item in
-    let under = sum_top g.N.Walk.HAS_SUMMARIES f s c.deref.result.now b h c.deref.ensures.value item.3.0 item.1 in
+    let under = sum_top has f s c.deref.result.now b h c.deref.ensures.value item.3.0 item.1 in
+    let own = λ (few : size d < 2 ^ 32). found_some (has && has_summary d Break) (size d) c.in-Some.own (c.in-Some.ensures.exact few) in
     sum_then c.in-Some.own i m d (stack_of f s) c.in-Some.ensures.known under c.in-Some-then.ensures.reads
-    (λ all small. c.in-Some-then.ensures.small (size d) (nodes (stack_of f s)) all.1
-    (c.in-Some.ensures.found c.requires all.0.0 (omega (arith, all.1))) small)
+    (λ few. only_second has (has_summary d Break) c.requires (own few).0)
+    (λ few small. c.in-Some-then.ensures.small (size d) (nodes (stack_of f s)) few (own (omega (arith, few))).1 small)
 
 pub returns-in-None : goal.returns-in-None
 returns-in-None g c i m h =
     let f = g.N.Walk.tree in
+    let has = g.N.Walk.HAS_SUMMARIES in
     let s = c.args.self.now in
     let d = f c.args.node.now in
     let b = c.in-Some-last.below.now in
     let item = c.in-Some-last.ensures.item in
-    let under = sum_top g.N.Walk.HAS_SUMMARIES f s c.deref.result.now b h c.deref.ensures.value item.3.0 item.1 in
+    let under = sum_top has f s c.deref.result.now b h c.deref.ensures.value item.3.0 item.1 in
     sum_own c.in-Some.own c.len-height.result i m d (stack_of f s) (omega (arith, length-stack_of f s, s.nodes.ok.0, c.len-height.ensures))
     c.in-Some.ensures.known
-    (λ all. absurd (c.in-None.ensures.small (size d) (nodes (stack_of f s)) all.1
-    (c.in-Some.ensures.found c.requires all.0.0 (omega (arith, all.1)))
-    (under.whole (have_sum_below (make_task i m d) (stack_of f s) all)).1))
+    (λ few. absurd (c.in-None.ensures.small (size d) (nodes (stack_of f s)) few
+    (found_some (has && has_summary d Break) (size d) c.in-Some.own (c.in-Some.ensures.exact (omega (arith, few)))).1
+    (under.run (omega (arith, few))).1))

@@ -1,0 +1,178 @@
+-- How many nodes a probe reads, node by node.
+use Rattle.std.proofs.Common.{◌≡◌, ℕ, ◌+◌, ◌-◌, ◌^◌, ◌<◌, ◌≤◌, min, List, [], ◌∷◌, refl, Result, Ok, Err, IfOk, Bool, true, false, ◌&&◌, ap, arith, if◌then◌else◌}
+use Rattle.std.proofs.lemmas.Bool.{le-leb}
+use Rattle.std.proofs.lemmas.Bool.Decides.{nat_tests}
+use Rattle.prettyless_model.specs.Tree as t
+use Rattle.prettyless_model.specs.Tree.{Tree}
+use Rattle.prettyless_model.specs.Choice.{column_holds, nesting_holds}
+use Rattle.prettyless_model.specs.Column.{prospective}
+use Rattle.prettyless_model.specs.Look.{Look, Answers, GoesOn, look, look_then}
+use Rattle.prettyless_model.specs.declared.choice.ColumnTest.{ColumnTest}
+use Rattle.prettyless_model.specs.declared.choice.NestingTest.{NestingTest}
+use Rattle.prettyless_model.specs.declared.column.Column.{Column}
+use Rattle.prettyless_model.specs.declared.mode.Mode.{Mode}
+use Rattle.prettyless_model.specs.declared.mode.Mode.TheVariants.{Break}
+use Rattle.prettyless_summary.specs.Summary.{has_summary}
+use Rattle.prettyless_probe.specs.Stack.{Task, make_task}
+use Rattle.prettyless_probe.specs.Reads.{by_sums, read_after, reads, reads_all, reads_below, with_below}
+
+-- what is read after one look and then another
+pub after-then : (x : Look) (f : Column → Bool → Look) (g : Column → Bool → ℕ) →
+    read_after (look_then x f) g ≡ read_after x (λ c p. read_after (f c p) g)
+after-then (Answers b) f g = refl
+after-then (GoesOn c p) f g = refl
+
+after-sum : (x : Look) (f g : Column → Bool → ℕ) → read_after x (λ c p. f c p + g c p) ≡ read_after x f + read_after x g
+after-sum (Answers b) f g = refl
+after-sum (GoesOn c p) f g = refl
+
+pub below_too : (b : Bool) (n k : ℕ) → b ≡ false → with_below b n + k ≡ 1 + (n + k)
+below_too b n k e = rw e (omega arith)
+
+-- what comes after a look may be said another way
+pub after-each : (x : Look) (f g : Column → Bool → ℕ) → ((c : Column) (p : Bool) → f c p ≡ g c p) → read_after x f ≡ read_after x g
+after-each (Answers b) f g h = refl
+after-each (GoesOn c p) f g h = h c p
+
+-- one document after another is two tasks
+pub reads-append : (sums : Bool) (w i : ℕ) (m : Mode) (l r : Tree) (ts : List Task) (next : Column → Bool → ℕ) (c : Column) (p : Bool)
+    → (sums && has_summary (t.Append l r) m) ≡ false →
+    reads_all sums w (make_task i m (t.Append l r) ∷ ts) next c p
+    ≡ 1 + reads_all sums w (make_task i m l ∷ make_task i m r ∷ ts) next c p
+reads-append sums w i m l r ts next c p e =
+    let rest : Column → Bool → ℕ = λ d q. reads_all sums w ts next d q in
+    let first : ℕ = reads sums w l i m c p in
+    let second : ℕ = read_after (look w l i m c p) (λ d q. reads sums w r i m d q) in
+    omega (
+      arith,
+      below_too (sums && has_summary (t.Append l r) m) (first + second)
+          (read_after (look w (t.Append l r) i m c p) rest) e,
+      after-then (look w l i m c p) (λ d q. look w r i m d q) rest,
+      after-sum (look w l i m c p) (λ d q. reads sums w r i m d q) (λ d q. read_after (look w r i m d q) rest),
+    )
+
+reads-either : (test : Bool) (sums : Bool) (w i : ℕ) (m : Mode) (y n : Tree) (ts : List Task) (next : Column → Bool → ℕ) (c : Column)
+    (p : Bool) →
+    1 + (if test then reads sums w y i m c p else reads sums w n i m c p)
+    + read_after (if test then look w y i m c p else look w n i m c p) (λ d q. reads_all sums w ts next d q)
+    ≡ 1 + reads_all sums w (make_task i m (if test then y else n) ∷ ts) next c p
+reads-either true sums w i m y n ts next c p = omega arith
+reads-either false sums w i m y n ts next c p = omega arith
+
+-- a choice is the task of the document that is taken
+pub reads_column : (sums : Bool) (w i : ℕ) (m : Mode) (y n : Tree) (ts : List Task) (next : Column → Bool → ℕ) (c : Column) (p : Bool)
+    (test : ColumnTest) →
+    reads_all sums w (make_task i m (t.OnColumn test y n) ∷ ts) next c p
+    ≡ 1 + reads_all sums w (make_task i m (if column_holds test (prospective c) i then y else n) ∷ ts) next c p
+reads_column sums w i m y n ts next c p test = reads-either (column_holds test (prospective c) i) sums w i m y n ts next c p
+
+pub reads_nesting : (sums : Bool) (w i : ℕ) (m : Mode) (y n : Tree) (ts : List Task) (next : Column → Bool → ℕ) (c : Column) (p : Bool)
+    (test : NestingTest) →
+    reads_all sums w (make_task i m (t.OnNesting test y n) ∷ ts) next c p
+    ≡ 1 + reads_all sums w (make_task i m (if nesting_holds test i then y else n) ∷ ts) next c p
+reads_nesting sums w i m y n ts next c p test = reads-either (nesting_holds test i) sums w i m y n ts next c p
+
+-- ---- Counts that stay at their greatest value
+
+-- one node is read, and so many are left
+pub one_read : (k old x y : ℕ) → k ≡ min (old + 1) (2 ^ 64 - 1) → x ≡ 1 + y → min (k + y) (2 ^ 64 - 1) ≡ min (old + x) (2 ^ 64 - 1)
+one_read k old x y h e = omega (arith, h, e)
+
+-- one node is read, the last one
+pub last_read : (k old x : ℕ) → k ≡ min (old + 1) (2 ^ 64 - 1) → x ≡ 1 → k ≡ min (old + x) (2 ^ 64 - 1)
+last_read k old x h e = omega (arith, h, e)
+
+-- nothing is left to read
+pub all_read : (k old x : ℕ) → k ≤ 2 ^ 64 - 1 → min (k + 0) (2 ^ 64 - 1) ≡ min (old + x) (2 ^ 64 - 1) → k ≡ min (old + x) (2 ^ 64 - 1)
+all_read k old x l h = omega (arith, l, h)
+
+-- ---- Each document is a node
+
+with_some : (b : Bool) (n : ℕ) → 0 < with_below b n
+with_some true n = omega arith
+with_some false n = omega arith
+
+-- a document is one node at least
+pub some_read : (sums : Bool) (w : ℕ) (d : Tree) (i : ℕ) (m : Mode) (c : Column) (p : Bool) → 0 < reads sums w d i m c p
+some_read sums w (t.Append l r) i m c p = with_some (sums && has_summary (t.Append l r) m) _
+some_read sums w (t.Nest k d) i m c p = with_some (sums && has_summary (t.Nest k d) m) _
+some_read sums w (t.DedentToRoot d) i m c p = with_some (sums && has_summary (t.DedentToRoot d) m) _
+some_read sums w (t.Align d) i m c p = with_some (sums && has_summary (t.Align d) m) _
+some_read sums w (t.Flatten d) i m c p = with_some (sums && has_summary (t.Flatten d) m) _
+some_read sums w (t.BreakOrFlat b f) i m c p = with_some (sums && has_summary (t.BreakOrFlat b f) m) _
+some_read sums w (t.Group d) i m c p = with_some (sums && has_summary (t.Group d) m) _
+some_read sums w (t.Union l r) i m c p = with_some (sums && has_summary (t.Union l r) m) _
+some_read sums w (t.PartialUnion l r) i m c p = with_some (sums && has_summary (t.PartialUnion l r) m) _
+some_read sums w (t.OnColumn test y n) i m c p = omega arith
+some_read sums w (t.OnNesting test y n) i m c p = omega arith
+some_read sums w (t.LineSuffix d) i m c p = omega arith
+some_read sums w t.Nil i m c p = omega arith
+some_read sums w t.Fail i m c p = omega arith
+some_read sums w (t.Text s) i m c p = omega arith
+some_read sums w (t.TextWithLen k s) i m c p = omega arith
+some_read sums w (t.MultilineText s) i m c p = omega arith
+some_read sums w t.WeakSpace i m c p = omega arith
+some_read sums w t.HardLine i m c p = omega arith
+some_read sums w t.WeakLine i m c p = omega arith
+some_read sums w t.ExpandParent i m c p = omega arith
+
+pub ruleset looks_read = (reads-append, reads_column, reads_nesting, below_too)
+
+-- ---- Where summaries are read
+
+one_alone : (b : Bool) (n : ℕ) → b ≡ true → with_below b n ≡ 1
+one_alone b n e = rw e refl
+
+-- a document that has a summary is read as one node
+pub read_known : (w : ℕ) (d : Tree) (i : ℕ) (m : Mode) (c : Column) (p : Bool) → has_summary d m ≡ true → reads true w d i m c p ≡ 1
+read_known w (t.Append l r) i m c p h = one_alone (has_summary (t.Append l r) m) _ h
+read_known w (t.Nest k d) i m c p h = one_alone (has_summary (t.Nest k d) m) _ h
+read_known w (t.DedentToRoot d) i m c p h = one_alone (has_summary (t.DedentToRoot d) m) _ h
+read_known w (t.Align d) i m c p h = one_alone (has_summary (t.Align d) m) _ h
+read_known w (t.Flatten d) i m c p h = one_alone (has_summary (t.Flatten d) m) _ h
+read_known w (t.BreakOrFlat b f) i m c p h = one_alone (has_summary (t.BreakOrFlat b f) m) _ h
+read_known w (t.Group d) i m c p h = one_alone (has_summary (t.Group d) m) _ h
+read_known w (t.Union l r) i m c p h = one_alone (has_summary (t.Union l r) m) _ h
+read_known w (t.PartialUnion l r) i m c p h = one_alone (has_summary (t.PartialUnion l r) m) _ h
+read_known w (t.OnColumn test y n) i m c p h = absurd (cc)
+read_known w (t.OnNesting test y n) i m c p h = absurd (cc)
+read_known w (t.LineSuffix d) i m c p h = refl
+read_known w t.Nil i m c p h = refl
+read_known w t.Fail i m c p h = refl
+read_known w (t.Text s) i m c p h = refl
+read_known w (t.TextWithLen k s) i m c p h = refl
+read_known w (t.MultilineText s) i m c p h = refl
+read_known w t.WeakSpace i m c p h = refl
+read_known w t.HardLine i m c p h = refl
+read_known w t.WeakLine i m c p h = refl
+read_known w t.ExpandParent i m c p h = refl
+
+-- a document that has a summary, and then tasks
+pub reads_by_one : (w i : ℕ) (m : Mode) (d : Tree) (ts : List Task) (next : Column → Bool → ℕ) (c : Column) (p : Bool)
+    → has_summary d m ≡ true →
+    reads_all true w (make_task i m d ∷ ts) next c p ≡ 1 + read_after (look w d i m c p) (reads_all true w ts next)
+reads_by_one w i m d ts next c p h =
+    ap (λ (n : ℕ). n + read_after (look w d i m c p) (reads_all true w ts next)) (read_known w d i m c p h)
+
+-- what follows, where the first of it has no summary
+pub reads_unknown : (w : ℕ) (t : Task) (ts : List Task) (c : Column) (p : Bool) → has_summary t.tree Break ≡ false →
+    reads_below true w false (t ∷ ts) c p ≡ reads_all true w (make_task t.indent Break t.tree ∷ []) (reads_below true w false ts) c p
+reads_unknown w t ts c p h = rw h refl
+
+-- ---- Whether summaries are read
+
+pub narrow_by_sums : (has : Bool) (w : ℕ) → has ≡ true → w ≤ 2 ^ 32 - 1 → by_sums has w ≡ true
+narrow_by_sums has w on l = rw (on, le-leb w (2 ^ 32 - 1) l) refl
+
+pub wide_by_sums : (has : Bool) (w : ℕ) → 2 ^ 32 - 1 < w → by_sums has w ≡ false
+wide_by_sums true w l = grind (arith, nat_tests)
+wide_by_sums false w l = refl
+
+pub none_by_sums : (has : Bool) (w : ℕ) → has ≡ false → by_sums has w ≡ false
+none_by_sums has w off = rw off refl
+
+-- ---- Results
+
+pub if_ok : {T E : Type 0} (r : Result T E) (P Q : T → Type 0) → ((a : T) → P a → Q a) → IfOk r P → IfOk r Q
+if_ok (Ok x) P Q via h = via x h
+if_ok (Err e) P Q via h = h

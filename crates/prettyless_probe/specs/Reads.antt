@@ -1,0 +1,90 @@
+-- How many nodes a probe reads: those that it looks at, up to the end of the line. One whose summary is known is read as one.
+use Rattle.std.specs.Prelude.{◌≡◌, ℕ, ◌+◌, ◌-◌, ◌^◌, ◌<◌, min, nat_le, Bool, IsTrue, true, false, ◌&&◌, List, [], ◌∷◌, Option, Some, None, if◌then◌else◌}
+use Rattle.prettyless_model.specs.Tree as t
+use Rattle.prettyless_model.specs.Tree.{Tree, size}
+use Rattle.prettyless_model.specs.Choice.{column_holds, nesting_holds}
+use Rattle.prettyless_model.specs.Column.{nested, prospective}
+use Rattle.prettyless_model.specs.Look.{Look, Answers, GoesOn, by_mode, look}
+use Rattle.prettyless_model.specs.declared.column.Column.{Column}
+use Rattle.prettyless_model.specs.declared.mode.Mode.{Mode}
+use Rattle.prettyless_model.specs.declared.mode.Mode.TheVariants.{Break, Flat}
+use Rattle.prettyless_summary.specs.Summary.{has_summary}
+use Rattle.prettyless_probe.specs.Stack.{Task, make_task, nodes}
+use Rattle.prettyless_probe.specs.declared.probe.ProbeStep.{ProbeStep}
+use Rattle.prettyless_probe.specs.declared.probe.ProbeStep.TheVariants.{Answer, Descend, Silent}
+
+-- what is read after a look: nothing where it answers
+abbrev pub read_after : Look → (Column → Bool → ℕ) → ℕ
+read_after (Answers b) next = 0
+read_after (GoesOn c p) next = next c p
+
+-- a node, and so many below it; where its summary is read they are not
+abbrev pub with_below : Bool → ℕ → ℕ
+with_below true n = 1
+with_below false n = 1 + n
+
+-- How many nodes are read of a document at an indent in a mode, from a column on, as `look` looks at it. `sums` says whether summaries
+-- are read; `p` whether a document is pending.
+abbrev pub reads : Bool → ℕ → Tree → ℕ → Mode → Column → Bool → ℕ
+reads sums width (t.Append l r) i m c p =
+    with_below (sums && has_summary (t.Append l r) m)
+    (reads sums width l i m c p + read_after (look width l i m c p) (λ e q. reads sums width r i m e q))
+reads sums width (t.Nest k d) i m c p = with_below (sums && has_summary (t.Nest k d) m) (reads sums width d (nested i k) m c p)
+reads sums width (t.DedentToRoot d) i m c p = with_below (sums && has_summary (t.DedentToRoot d) m) (reads sums width d 0 m c p)
+reads sums width (t.Align d) i m c p = with_below (sums && has_summary (t.Align d) m) (reads sums width d (prospective c) m c p)
+reads sums width (t.Flatten d) i m c p = with_below (sums && has_summary (t.Flatten d) m) (reads sums width d i Flat c p)
+reads sums width (t.BreakOrFlat b f) i m c p =
+    with_below (sums && has_summary (t.BreakOrFlat b f) m) (by_mode m (reads sums width b i m c p) (reads sums width f i m c p))
+reads sums width (t.Group d) i m c p = with_below (sums && has_summary (t.Group d) m) (reads sums width d i m c p)
+reads sums width (t.Union l r) i m c p =
+    with_below (sums && has_summary (t.Union l r) m) (by_mode m (reads sums width r i m c p) (reads sums width l i m c p))
+reads sums width (t.PartialUnion l r) i m c p =
+    with_below (sums && has_summary (t.PartialUnion l r) m) (by_mode m (reads sums width r i m c p) (reads sums width l i m c p))
+reads sums width (t.OnColumn test y n) i m c p =
+    1 + (if column_holds test (prospective c) i then reads sums width y i m c p else reads sums width n i m c p)
+reads sums width (t.OnNesting test y n) i m c p =
+    1 + (if nesting_holds test i then reads sums width y i m c p else reads sums width n i m c p)
+-- a node with no document below it, or a line suffix, whose document is read at no time
+reads sums width d i m c p = 1
+
+-- of tasks, each at its own indent in its own mode, and then of what comes next
+abbrev pub reads_all : Bool → ℕ → List Task → (Column → Bool → ℕ) → Column → Bool → ℕ
+reads_all sums width [] next c p = next c p
+reads_all sums width (t ∷ ts) next c p =
+    reads sums width t.tree t.indent t.mode c p
+    + read_after (look width t.tree t.indent t.mode c p) (λ e q. reads_all sums width ts next e q)
+
+-- Of what follows a document, each task in Break. Tasks one after another that have summaries are read by one sum: `summed` says whether
+-- the sum of those before is that of the next one too.
+abbrev pub reads_below : Bool → ℕ → Bool → List Task → Column → Bool → ℕ
+reads_below sums width summed [] c p = 0
+reads_below sums width summed (t ∷ ts) c p =
+    (if sums && has_summary t.tree Break && summed then 0 else reads sums width t.tree t.indent Break c p)
+    + read_after (look width t.tree t.indent Break c p) (λ e q. reads_below sums width (sums && has_summary t.tree Break) ts e q)
+
+-- of a document and what follows it: how many nodes a probe reads
+abbrev pub probe_reads : Bool → ℕ → Tree → ℕ → Mode → List Task → Column → Bool → ℕ
+probe_reads sums width d i m ts c p = reads_all sums width (make_task i m d ∷ []) (reads_below sums width false ts) c p
+
+-- whether a probe reads summaries: where nodes have them and the width is below 2^32
+abbrev pub by_sums : Bool → ℕ → Bool
+by_sums has width = has && nat_le width (2 ^ 32 - 1)
+
+-- what a probe has still to read after the result at a node: of the node that is read next, if there is one, and of the tasks after it
+abbrev pub reads_on : {N : Type 0} → (N → Tree) → Bool → ℕ → ProbeStep N → List Task → (Column → Bool → ℕ) → Column → Bool → ℕ
+reads_on f sums width (Answer b) ts next c p = 0
+reads_on f sums width (Descend i m n) ts next c p = reads_all sums width (make_task i m (f n) ∷ ts) next c p
+reads_on f sums width Silent ts next c p = reads_all sums width ts next c p
+
+-- what is read from a node on, if there is one
+abbrev pub reads_next : {N : Type 0} → Option N → (N → ℕ) → ℕ
+reads_next None from = 0
+reads_next (Some n) from = from n
+
+-- a count that rose by k, or to the greatest value
+abbrev pub RisesTo : ℕ → ℕ → ℕ → Type 0
+RisesTo k old new = new ≡ min (old + k) (2 ^ 64 - 1)
+
+-- what a probe reads by summaries, if it does, is few enough for no number of a sum to pass 32 bits
+abbrev pub IsFew : Bool → ℕ → Tree → List Task → Type 0
+IsFew has width d ts = IsTrue (by_sums has width) → size d + nodes ts < 2 ^ 32
