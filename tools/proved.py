@@ -66,11 +66,14 @@ class Prover:
         ran = subprocess.Popen(["rt", "ci"], cwd=self.root, universal_newlines=True, **how)
         times = ProofTimes(ran.pid, crate_of)
         times.start()
-        for line in ran.stdout:
-            printed.append(line)
-            self.read(line, times, say)
-        _, status, usage = os.wait4(ran.pid, 0)
-        ran.returncode = status
+        try:
+            for line in ran.stdout:
+                printed.append(line)
+                self.read(line, times, say)
+        except BaseException:
+            ran.terminate()
+            raise
+        _, ran.returncode, usage = os.wait4(ran.pid, 0)
         times.stop()
         lacking = [it.name for it in wanted if it.name not in {*self.proved, *self.kept}]
         # The status is also that of programs, which `rt ci` runs on their examples: those are tests, and nothing here.
