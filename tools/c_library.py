@@ -9,8 +9,6 @@ import shutil
 import subprocess
 import tempfile
 
-import version
-
 CALLS = ("prettyless_layout", "prettyless_json_layout", "prettyless_toml")
 # What the library may take from the C library.
 OF_LIBC = {"malloc", "realloc", "free", "memcpy", "memmove", "memset", "memcmp"}
@@ -58,17 +56,9 @@ def check_names(what, shown, wanted):
         raise Failed(f"{what}: {' '.join(sorted(names))}")
 
 
-def link(path, to):
-    """Makes a link to a file of the same folder, in place of what stands there."""
-    if os.path.lexists(to):
-        os.remove(to)
-    os.symlink(os.path.basename(path), to)
-
-
 def build(code, allocation, folder):
     """Makes both in a folder, of the code of the calls and the toolchain's archive for allocation, and checks names."""
     os.makedirs(folder, exist_ok=True)
-    archive, shared = f"{folder}/{ARCHIVE}", f"{folder}/{SHARED}.{version.version()}"
     with tempfile.TemporaryDirectory() as room:
         whole = f"{room}/prettyless.o"
         joined(code, allocation, whole)
@@ -78,8 +68,9 @@ def build(code, allocation, folder):
         check_names(f"names of {ARCHIVE}", run(["nm", "-g", "--defined-only", f"{room}/{ARCHIVE}"]), set(CALLS))
         check_names(f"names of {SHARED}", run(["nm", "-D", "--defined-only", f"{room}/{SHARED}"]), set(CALLS))
         check_names(f"wanted by {ARCHIVE}", run(["nm", "-u", f"{room}/{ARCHIVE}"]), OF_LIBC)
-        shutil.move(f"{room}/{ARCHIVE}", archive)
-        shutil.move(f"{room}/{SHARED}", shared)
-    for name in (SONAME, SHARED):
-        link(shared, f"{folder}/{name}")
+        # Each is a file of its own: `rt ci` refuses links in a repository.
+        for made, name in ((ARCHIVE, ARCHIVE), (SHARED, SHARED), (SHARED, SONAME)):
+            if os.path.lexists(f"{folder}/{name}"):
+                os.remove(f"{folder}/{name}")
+            shutil.copy(f"{room}/{made}", f"{folder}/{name}")
     return folder

@@ -42,6 +42,13 @@ def put(path, to, mode=0o644):
     return to
 
 
+def link(path, to):
+    """Makes a link to a file of the same folder, in place of what stands there."""
+    if os.path.lexists(to):
+        os.remove(to)
+    os.symlink(os.path.basename(path), to)
+
+
 def write(text, to):
     os.makedirs(os.path.dirname(to), exist_ok=True)
     with open(to, "w", encoding="utf-8") as file:
@@ -68,12 +75,17 @@ def library_of(code, folder):
 
 def put_library(code, prefix, is_proved):
     """Installs the library, its header, and what pkg-config reads. The files."""
-    library_of(code, f"{prefix}/lib")
+    archive, shared = (f"{prefix}/lib/{it}" for it in (c_library.ARCHIVE, c_library.SHARED))
+    with tempfile.TemporaryDirectory() as room:
+        library_of(code, room)
+        put(f"{room}/{c_library.ARCHIVE}", archive)
+        put(f"{room}/{c_library.SHARED}", f"{shared}.{version.version()}", 0o755)
+    for it in (shared, f"{prefix}/lib/{c_library.SONAME}"):
+        link(f"{shared}.{version.version()}", it)
     header = put(f"{built.ROOT}/bindings/c/prettyless.h", f"{prefix}/include/prettyless.h")
     proofs = " whose layouts are proved" if is_proved else ", built without its proofs"
     package = PACKAGE.format(version=version.version(), proofs=proofs)
-    libraries = [f"{prefix}/lib/{it}" for it in (c_library.ARCHIVE, c_library.SHARED)]
-    return [*libraries, header, write(package, f"{prefix}/lib/pkgconfig/prettyless.pc")]
+    return [archive, shared, header, write(package, f"{prefix}/lib/pkgconfig/prettyless.pc")]
 
 
 def put_wheel(code, folder, is_proved):
