@@ -1,3 +1,4 @@
 pub mod Piece
 pub mod Steps
+pub mod Reads
 pub mod Printing

@@ -13,6 +13,8 @@ ghost use Rattle.prettyless_step.specs.Steps.{rejects_payload, step_of, union_st
 ghost use Rattle.prettyless_step.specs.Piece.{piece_bytes};
 ghost use Rattle.prettyless_step.specs.Printing.{IsStepped, IsSteppedOrRefused, IsStopped, Shows, Writes, following, state_of, tasks_of};
 ghost use Rattle.prettyless_probe.specs.Probing.{Few, RisesBy, asked, is_fit};
+ghost use Rattle.prettyless_probe.specs.Reads.{IsFew, RisesTo};
+ghost use Rattle.prettyless_step.specs.Reads.{reads_here, step_reads};
 ghost use Rattle.prettyless_probe.specs.Texts.{IsTexts, texts_waiting};
 ghost use Rattle.prettyless_probe.specs.declared.probe.Fit.TheVariants.{FitsAsTexts};
 ghost use Rattle.prettyless_probe.specs.Sums.{IsSummed};
@@ -52,6 +54,12 @@ fn probe_here<N: Walk>(
     ensures counted { probes.new ≤ probes.old + (size (N.tree node) + nodes (tasks_of N.tree printer.old)) }
     ensures asked { OnOk result (RisesBy 1 probes.old probes.new) }
     ensures few { Few N.HAS_SUMMARIES printer.old.options.width (N.tree node) (tasks_of N.tree printer.old) 1 probes.old probes.new }
+    ensures reads { IsFew N.HAS_SUMMARIES printer.old.options.width (N.tree node) (tasks_of N.tree printer.old) → OnOk result (RisesTo
+        (reads_here N.HAS_SUMMARIES printer.old.options (N.tree node) indent mode (tasks_of N.tree printer.old)
+        (state_of N.tree printer.old)) probes.old probes.new) }
+    ensures reads_at_most { IsFew N.HAS_SUMMARIES printer.old.options.width (N.tree node) (tasks_of N.tree printer.old) → probes.new
+        ≤ probes.old + reads_here N.HAS_SUMMARIES printer.old.options (N.tree node) indent mode (tasks_of N.tree printer.old)
+        (state_of N.tree printer.old) }
 {
     let start = ProbeLine {
         column: printer.column,
@@ -89,6 +97,13 @@ fn partial_choice<N: Walk>(
     ensures asked { OnOk result (RisesBy (by_mode mode 1 0) probes.old probes.new) }
     ensures few { Few N.HAS_SUMMARIES printer.old.options.width (N.tree first) (tasks_of N.tree printer.old) (by_mode mode 1 0)
         probes.old probes.new }
+    ensures reads { mode ≡ Break → IsFew N.HAS_SUMMARIES printer.old.options.width (N.tree first) (tasks_of N.tree printer.old)
+        → OnOk result (RisesTo
+        (reads_here N.HAS_SUMMARIES printer.old.options (N.tree first) indent Break (tasks_of N.tree printer.old)
+        (state_of N.tree printer.old)) probes.old probes.new) }
+    ensures reads_at_most { IsFew N.HAS_SUMMARIES printer.old.options.width (N.tree first) (tasks_of N.tree printer.old) → probes.new
+        ≤ probes.old + by_mode mode (reads_here N.HAS_SUMMARIES printer.old.options (N.tree first) indent Break
+        (tasks_of N.tree printer.old) (state_of N.tree printer.old)) 0 }
 {
     if let Mode::Flat = mode {
         return Ok(first);
@@ -232,6 +247,13 @@ fn group<N: Walk>(
     ensures within { IsSteppedOrRefused result → 0 < by_mode mode 1 0 → probes.old ≤ limit }
     ensures few { Few N.HAS_SUMMARIES printer.old.options.width (N.tree inner) (tasks_of N.tree printer.old) (by_mode mode 1 0)
         probes.old probes.new }
+    ensures reads { mode ≡ Break → IsFew N.HAS_SUMMARIES printer.old.options.width (N.tree inner) (tasks_of N.tree printer.old)
+        → IfOk result (λ taken. IsStepped taken → RisesTo
+        (reads_here N.HAS_SUMMARIES printer.old.options (N.tree inner) indent Flat (tasks_of N.tree printer.old)
+        (state_of N.tree printer.old)) probes.old probes.new) }
+    ensures reads_at_most { IsFew N.HAS_SUMMARIES printer.old.options.width (N.tree inner) (tasks_of N.tree printer.old) → probes.new
+        ≤ probes.old + by_mode mode (reads_here N.HAS_SUMMARIES printer.old.options (N.tree inner) indent Flat
+        (tasks_of N.tree printer.old) (state_of N.tree printer.old)) 0 }
     ensures queue { printer.new.queue ≡ printer.old.queue }
     ensures summed { OnOk result (IsSummed N.HAS_SUMMARIES N.tree printer.new.commands) }
 {
@@ -277,6 +299,13 @@ fn partial_union<N: Walk>(
     ensures within { IsSteppedOrRefused result → 0 < by_mode mode 1 0 → probes.old ≤ limit }
     ensures few { Few N.HAS_SUMMARIES printer.old.options.width (N.tree first) (tasks_of N.tree printer.old) (by_mode mode 1 0)
         probes.old probes.new }
+    ensures reads { mode ≡ Break → IsFew N.HAS_SUMMARIES printer.old.options.width (N.tree first) (tasks_of N.tree printer.old)
+        → IfOk result (λ taken. IsStepped taken → RisesTo
+        (reads_here N.HAS_SUMMARIES printer.old.options (N.tree first) indent Break (tasks_of N.tree printer.old)
+        (state_of N.tree printer.old)) probes.old probes.new) }
+    ensures reads_at_most { IsFew N.HAS_SUMMARIES printer.old.options.width (N.tree first) (tasks_of N.tree printer.old) → probes.new
+        ≤ probes.old + by_mode mode (reads_here N.HAS_SUMMARIES printer.old.options (N.tree first) indent Break
+        (tasks_of N.tree printer.old) (state_of N.tree printer.old)) 0 }
     ensures queue { printer.new.queue ≡ printer.old.queue }
     ensures summed { OnOk result (IsSummed N.HAS_SUMMARIES N.tree printer.new.commands) }
 {
@@ -350,6 +379,14 @@ pub fn step<'v, N: Walk>(
     ensures few { Few N.HAS_SUMMARIES printer.old.options.width (N.tree node.now) (tasks_of N.tree printer.old)
         (each_probe (N.tree node.now) mode)
         visits.old.probes visits.new.probes }
+    ensures reads { 0 < each_probe (N.tree node.now) mode
+        → IsFew N.HAS_SUMMARIES printer.old.options.width (N.tree node.now) (tasks_of N.tree printer.old)
+        → IfOk result (λ taken. IsStepped taken → RisesTo
+        (step_reads N.HAS_SUMMARIES printer.old.options (N.tree node.now) indent mode (tasks_of N.tree printer.old)
+        (state_of N.tree printer.old)) visits.old.probes visits.new.probes) }
+    ensures reads_at_most { IsFew N.HAS_SUMMARIES printer.old.options.width (N.tree node.now) (tasks_of N.tree printer.old)
+        → visits.new.probes ≤ visits.old.probes + step_reads N.HAS_SUMMARIES printer.old.options (N.tree node.now) indent mode
+        (tasks_of N.tree printer.old) (state_of N.tree printer.old) }
     ensures queue { suffix_depth (N.tree node.now) ≡ 0 → some_pending (state_of N.tree printer.old).pending ≡ false
         → printer.new.queue ≡ printer.old.queue }
     ensures summed { OnOk result (IsSummed N.HAS_SUMMARIES N.tree printer.new.commands) }
