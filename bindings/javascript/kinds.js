@@ -12,17 +12,23 @@ export const APPEND = 48;
 export const OPEN = 64;
 export const CLOSE = 65;
 
-// A leaf is whole codes. `breaks` says that a group is broken where flat lines would show it, and `flat` is what stands for
-// it in a state of a `conditionalGroup`, which is laid flat.
-const leaf = (codes, { breaks = false, flat } = {}) => ({ shape: LEAF, codes, breaks, flat });
-// A break after which the line has the indent of the break: nil comes next. `followed` is its code where another document
-// comes next that has the same indent.
-const here = (code, more) => ({ ...leaf([code, NIL, APPEND], more), followed: code });
-const text = (code) => ({ shape: TEXT, code });
-const over = (code) => ({ shape: OVER, code });
-// `flat` has those of the two that flat lines show.
-const both = (code, flat) => ({ shape: BOTH, code, flat });
+// All kinds have the same fields, which an engine reads faster:
+//
+// `code` is that of the node, and `codes` are those of a leaf.
+// `followed` is the code of a break where another document comes next that has the same indent.
+// `breaks` says that a group is broken where flat lines would show it.
+// `flat` is what stands for a leaf in a state of a `conditionalGroup`, which is laid flat. Of two documents it has the
+// places of those that flat lines show.
+const kind = (shape, { code, codes, followed, breaks = false, flat } = {}) => ({ shape, code, codes, followed, breaks, flat });
+
+const leaf = (codes, more) => kind(LEAF, { codes, ...more });
+const text = (code) => kind(TEXT, { code });
+const over = (code) => kind(OVER, { code });
+const both = (code, flat) => kind(BOTH, { code, flat });
+const list = kind(LIST);
 const EITHER = [0, 1];
+// A break after which the line has the indent of the break: nil comes next.
+const here = (code, more) => leaf([code, NIL, APPEND], { followed: code, ...more });
 
 export const KINDS = {
     nil: leaf([NIL]),
@@ -56,7 +62,7 @@ export const KINDS = {
     ifColumnIsNesting: both(54, EITHER),
     ifNestingAtMost: both(55, EITHER),
     ifNestingAtLeast: both(56, EITHER),
-    concat: { shape: LIST },
-    fill: { shape: LIST },
-    conditionalGroup: { shape: LIST },
+    concat: list,
+    fill: list,
+    conditionalGroup: list,
 };

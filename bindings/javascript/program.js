@@ -10,6 +10,7 @@ const MORE = 257; // the documents of the concat before it, in the sequence that
 const LAST = 258; // the same, where it is the last of the sequence
 const FLAT = 259; // from here on, documents are those of a state that is laid flat
 const BROKEN = 260;
+const CUT = 261; // the texts before and after it are apart
 
 // Texts of fewer characters are encoded here; a call of the encoder takes longer.
 const SHORT = 24;
@@ -51,25 +52,36 @@ class Bytes {
         this.length += 8;
     }
 
-    // A text, after its length.
+    // A text, after its length. Whether it is short and ASCII.
     text(text) {
         this.room(4 + 3 * text.length);
         const from = this.length + 4;
-        let length = text.length < SHORT ? this.ascii(text, from) : -1;
-        if (length < 0) length = this.encoded(text, from);
+        const isAscii = this.isAscii(text, from);
+        const length = isAscii ? text.length : this.encoded(text, from);
         this.view.setUint32(this.length, length, true);
         this.length = from + length;
+        return isAscii;
     }
 
-    // Writes a text that is ASCII. How many bytes it has, or -1 where it is not ASCII.
-    ascii(text, from) {
+    // Adds a text to the last one, whose length is at this place. Whether that was done: with short ones that are ASCII.
+    textAdded(text, at) {
+        this.room(text.length);
+        if (!this.isAscii(text, this.length)) return false;
+        this.length += text.length;
+        this.view.setUint32(at, this.length - at - 4, true);
+        return true;
+    }
+
+    // Writes a short text that is ASCII. Whether it is.
+    isAscii(text, from) {
+        if (text.length >= SHORT) return false;
         const { bytes } = this;
         for (let at = 0; at < text.length; at++) {
             const unit = text.charCodeAt(at);
-            if (unit > 127) return -1;
+            if (unit > 127) return false;
             bytes[from + at] = unit;
         }
-        return text.length;
+        return true;
     }
 
     encoded(text, from) {
@@ -87,6 +99,9 @@ class Writer {
         this.out = new Bytes();
         this.todo = [];
         this.isFlat = false;
+        // Where the length of the last text is, if another text of its sequence may be added to it, or -1. The two are laid
+        // as one: an ASCII text has as many columns as bytes.
+        this.last = -1;
         // Whether flat lines would show a break of a document, of those that were asked for.
         this.breaking = new Map();
     }
@@ -105,16 +120,20 @@ class Writer {
     }
 
     text(text) {
-        if (text.length === 0) return this.out.byte(NIL);
-        this.out.byte(KINDS.text.code);
-        return this.out.text(text);
+        const { out } = this;
+        if (this.last >= 0 && out.textAdded(text, this.last)) return;
+        out.byte(text.length > 0 ? KINDS.text.code : NIL);
+        const at = out.length;
+        this.last = text.length > 0 && out.text(text) ? at : -1;
     }
 
     finish(task) {
+        if (task === MORE || task === LAST) return this.inSequence(this.todo.pop().contents, task === MORE);
+        this.last = -1;
         if (task < TAIL) this.out.byte(task);
         else if (task === TAIL) this.tail(this.todo.pop());
-        else if (task <= LAST) this.inSequence(this.todo.pop().contents, task === MORE);
-        else this.isFlat = task === FLAT;
+        else if (task !== CUT) this.isFlat = task === FLAT;
+        return undefined;
     }
 
     tail(node) {
@@ -125,9 +144,13 @@ class Writer {
 
     node(node, kind) {
         const { out, todo } = this;
-        if (kind.shape === OVER) todo.push(node, TAIL, node.contents);
-        else if (kind.shape === BOTH) todo.push(node, TAIL, node.contents[1], node.contents[0]);
-        else if (kind.shape === LEAF) for (const code of kind.codes) out.byte(code);
+        this.last = -1;
+        if (kind.shape === OVER || kind.shape === BOTH) {
+            if (node.columns !== undefined || node.type === "indent") todo.push(node, TAIL);
+            else todo.push(kind.code);
+            if (kind.shape === OVER) todo.push(node.contents);
+            else todo.push(node.contents[1], CUT, node.contents[0]);
+        } else if (kind.shape === LEAF) for (const code of kind.codes) out.byte(code);
         else if (kind.shape === TEXT) {
             this.tail(node);
             out.text(node.contents);
@@ -150,7 +173,8 @@ class Writer {
             const isLast = at === docs.length - 1 && !isFollowed;
             if (typeof doc === "string") todo.push(doc);
             else if (doc.type === "concat") todo.push(doc, isLast ? LAST : MORE);
-            else todo.push(isLast || this.isFlat ? doc : (kindOf(doc).followed ?? doc));
+            else if (isLast || this.isFlat || doc.contents !== undefined) todo.push(doc);
+            else todo.push(kindOf(doc).followed ?? doc);
         }
     }
 
@@ -159,13 +183,13 @@ class Writer {
         const { todo } = this;
         for (let it = 0; it < states.length; it++) todo.push(KINDS.partialUnion.code);
         todo.push(states[states.length - 1], BROKEN);
-        for (let at = states.length - 1; at >= 0; at--) todo.push(states[at]);
-        todo.push(FLAT);
+        for (let at = states.length - 1; at >= 0; at--) todo.push(states[at], FLAT);
     }
 
     // A node in a state: its lines are flat but for those of groups that are broken at every width.
     flatNode(node, kind) {
         const { todo } = this;
+        this.last = -1;
         if (kind.shape === LEAF && kind.flat !== undefined) this.text(kind.flat);
         else if (kind.shape === BOTH && kind.flat.length === 1) todo.push(node.contents[kind.flat[0]]);
         else if (node.type === "group") {
