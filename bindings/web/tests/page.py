@@ -216,8 +216,16 @@ def test_tabs(page):
 
 
 def examples(page):
-    """The codes of the examples, by their names."""
-    return page.script("return DOCUMENTS")
+    """The codes of the examples, by their names: each is picked."""
+    return page.script(
+        """at("of-documents").click();
+        const pick = (name) => {
+            at("example").value = name;
+            at("example").dispatchEvent(new Event("input"));
+            return [name, at("text").value];
+        };
+        return Object.fromEntries([...at("example").options].filter((it) => !it.disabled).map((it) => pick(it.value)));"""
+    )
 
 
 def test_documents(page):
