@@ -137,7 +137,7 @@ class Writer {
     }
 
     tail(node) {
-        this.out.byte(KINDS[node.type].code);
+        this.out.byte(kindOf(node).code);
         if (node.type === "indent") this.out.number(this.tabWidth);
         else if (node.columns !== undefined) this.out.number(node.columns);
     }
@@ -217,8 +217,11 @@ class Writer {
     }
 }
 
+// A map finds a type faster than an object does.
+const BY_TYPE = new Map(Object.entries(KINDS));
+
 function kindOf(node) {
-    const kind = KINDS[node?.type];
+    const kind = BY_TYPE.get(node?.type);
     if (kind === undefined) throw new TypeError("a part of the document is none that a function of yezhgulo made");
     return kind;
 }
