@@ -8,6 +8,7 @@ check. What `rt ci` did not leave, or left of older sources, `rt run` and `rt li
 import os
 import subprocess
 import sys
+import tempfile
 
 ROOT = os.path.dirname(os.path.dirname(os.path.abspath(__file__)))
 
@@ -43,6 +44,19 @@ def static_library(name):
         return path
     ran(["rt", "lib"], name, path)
     return path
+
+
+def code(name):
+    """The path of what the toolchain hands to LLVM of this static library, which is proved."""
+    path = code_of(name)
+    archive = static_library(name)
+    if not is_newer(path, [name, *below(name)]) and not build_over_left(name, archive):
+        raise Failed(f"{name} was not built over the libraries below it")
+    return path
+
+
+def code_of(name):
+    return f"{folder_of(name)}/out/{name}.bc"
 
 
 def kit():
@@ -126,13 +140,30 @@ def ran(words, name, path):
 
 
 def build_over_left(name, path):
-    """Proves a static library over those that `rt ci` left, and builds it. Whether that was done."""
+    """Proves a static library over those that were left, and builds it and its code. Whether that was done."""
     os.makedirs(os.path.dirname(path), exist_ok=True)
     libraries = {it: library_of(it) for it in below(name)}
-    return build_over(name, folder_of(name), crates()[name], libraries, path).returncode == 0
+    with tempfile.TemporaryDirectory() as room:
+        keeping = keeping_toolchain(room, code_of(name))
+        return build_over(name, folder_of(name), crates()[name], libraries, path, keeping).returncode == 0
 
 
-def build_over(name, folder, uses, libraries, path):
+def keeping_toolchain(folder, path):
+    """A toolchain folder like Rattle's, whose clang keeps the code that it is given at this path."""
+    tools = f"{kit()}/toolchain/bin"
+    os.makedirs(f"{folder}/bin")
+    os.symlink(f"{kit()}/toolchain/lib", f"{folder}/lib")
+    for tool in os.listdir(tools):
+        if tool != "clang":
+            os.symlink(f"{tools}/{tool}", f"{folder}/bin/{tool}")
+    keeps = f'for it in "$@"; do case "$it" in *.bc) cp "$it" "{path}" ;; esac; done'
+    with open(f"{folder}/bin/clang", "w", encoding="utf-8") as script:
+        script.write(f'#!/bin/sh\n{keeps}\nexec "{tools}/clang" "$@"\n')
+    os.chmod(f"{folder}/bin/clang", 0o755)
+    return folder
+
+
+def build_over(name, folder, uses, libraries, path, toolchain=None):
     """Proves a static library over those below it, whose rlibs are given by name, and builds it. What came of that."""
     at = kit()
     words = ["--crate-name", name, "src/lib.rt", "-L", f"dependency={at}/rlibs", "--extern", f"std={at}/rlibs/std.rlib"]
@@ -142,5 +173,5 @@ def build_over(name, folder, uses, libraries, path):
         words += ["-L", f"dependency={os.path.dirname(it)}"]
     words += ["--antt-project", f"{at}/rattle/logic/antt-project.json", "--logic-built", f"{at}/logic_built"]
     words += ["--jobs", "1", "--links", f"{name}=", "--crate-type", "staticlib"]
-    words += ["--toolchain", f"{at}/toolchain", "--backend", "llvm", "-o", path]
+    words += ["--toolchain", toolchain or f"{at}/toolchain", "--backend", "llvm", "-o", path]
     return run([f"{at}/bin/rattle", "build", *words], folder)

@@ -27,6 +27,7 @@ PLACES = [
     place("bindings/c/prettyless.h", '^#define PL_VERSION "'),
     place("bindings/python/yezhgulo/__init__.py", '^__version__ = "'),
     place("bindings/rust/Cargo.toml", '^version = "'),
+    place("bindings/javascript/package.json", '^  "version": "'),
 ]
 
 

@@ -27,17 +27,25 @@ prettyless={version="0.4",features=["arena","terminal"]}
 `,
 };
 
-const NAMES = { json: "JSON", toml: "TOML" };
+EXAMPLES.documents = Object.values(DOCUMENTS)[0];
+
+const NAMES = { json: "Text (JSON)", toml: "Text (TOML)", documents: "Document (JavaScript)" };
 const PROMISES = {
+    documents: "a layout is the one that a definition names",
     json: "a layout has the same value as your text, each lexeme spelled as it was",
     toml: "a layout has the same statements as your text, each lexeme and remark spelled as it was",
 };
 
 const at = (id) => document.getElementById(id);
 const [text, layout, paper, status] = ["text", "layout", "paper", "status"].map(at);
-const language = () => document.querySelector("[name=language]:checked").value;
+const tabs = ["of-texts", "of-documents"].map(at);
+const isOfDocuments = () => at("of-documents").getAttribute("aria-selected") === "true";
+const language = () => (isOfDocuments() ? "documents" : document.querySelector("[name=language]:checked").value);
 
 // The worker
+
+// Code that takes longer, in milliseconds, is given up.
+const PATIENCE = 3000;
 
 function startWorker() {
     const source = URL.createObjectURL(new Blob([at("worker").textContent], { type: "text/javascript" }));
@@ -54,6 +62,7 @@ let isFree = false;
 let isWanted = false;
 let asked = null;
 let pause = 0;
+let patience = 0;
 
 // Has the text laid out after so many milliseconds, or when the worker is free.
 function want(wait) {
@@ -68,9 +77,19 @@ function ask() {
     [isFree, isWanted] = [false, false];
     asked = { text: text.value, options: options() };
     worker.postMessage(asked);
+    if (asked.options.language === "documents") patience = setTimeout(giveUp, PATIENCE);
+}
+
+// Ends the worker, and starts another, which is free once it has answered to its module.
+function giveUp() {
+    worker.terminate();
+    worker = startWorker();
+    showWrong(`The code took more than ${PATIENCE / 1000} seconds.`);
+    asked = null;
 }
 
 function received({ answered, took, failed }) {
+    clearTimeout(patience);
     isFree = true;
     if (failed) say(`Nothing was laid out: ${failed}.`, true);
     if (answered) show(answered, took);
@@ -81,21 +100,34 @@ function received({ answered, took, failed }) {
 // What is shown
 
 function show(answered, took) {
-    const isFault = answered.status === 5 || answered.status === 6;
-    mark(isFault && !isBlank(asked.text) ? answered : null);
+    const { layout: laid, fault, wrong } = answered;
     at("figures").textContent = "";
+    showTree(answered);
+    mark(fault && !isBlank(asked.text) ? fault : null);
     if (isBlank(asked.text)) {
         showLayout("");
         say("There is no text yet.", false);
-    } else if (answered.status === 0) {
-        showLayout(answered.text);
+    } else if (fault) {
+        say(`Line ${fault.line}, column ${fault.column}: expected ${fault.expected}.`, true);
+    } else if (wrong) {
+        showWrong(wrong);
+    } else {
+        showLayout(laid, answered.lines);
         say("Laid out.", false);
         const time = took.toFixed(took < 10 ? 1 : 0);
-        at("figures").textContent = `${count(answered.text.length, "character")} in ${time} ms`;
-    } else {
-        const place = `Line ${answered.line}, column ${answered.column}: expected ${answered.text}.`;
-        say(isFault ? place : "There is too little memory for this text.", true);
+        at("figures").textContent = `${brokenGroups(answered)}${count(laid.length, "character")} in ${time} ms`;
     }
+}
+
+function showWrong(wrong) {
+    mark(null);
+    say(wrong, true);
+}
+
+// How many groups are broken, in words, of a document that has any.
+function brokenGroups({ broken = {} }) {
+    const all = Object.values(broken);
+    return all.length > 0 ? `${all.filter((it) => it).length} of ${count(all.length, "group")} broken, ` : "";
 }
 
 const isBlank = (it) => !/[^ \t\r\n]/.test(it);
@@ -112,11 +144,13 @@ function say(line, isFault) {
 const count = (number, what) => `${number.toLocaleString("en")} ${what}${number === 1 ? "" : "s"}`;
 
 let shown = "";
+let pieces;
 
-function showLayout(lines) {
-    if (lines === shown) return;
-    shown = lines;
-    layout.replaceChildren(...parts(lines).map(partOf));
+// Shows a layout: where there are pieces of its lines, with the groups that are broken marked.
+function showLayout(lines, marked) {
+    if (lines === shown && marked === pieces) return;
+    [shown, pieces] = [lines, marked];
+    layout.replaceChildren(...(marked ? marked.map(lineOfPieces) : parts(lines).map(partOf)));
 }
 
 // The layout cut at ends of lines, without the last line end of each part.
@@ -136,6 +170,32 @@ function partOf(lines) {
     part.textContent = lines;
     part.style.containIntrinsicSize = `auto 0px auto calc(${lines.split("\n").length} * 1.25rem)`;
     return part;
+}
+
+function lineOfPieces(line) {
+    const part = document.createElement("div");
+    part.append(...(line.length > 0 ? line.map(pieceOf) : ["\n"]));
+    return part;
+}
+
+// A text, which is marked where broken groups are around it: one tint for one or three of them, another for two or four.
+function pieceOf({ text: content, depth }) {
+    const piece = document.createElement("span");
+    piece.textContent = content;
+    if (depth > 0) piece.className = depth % 2 === 1 ? "broken" : "broken inner";
+    return piece;
+}
+
+// The tree, and in it the groups that are broken. Where the code is wrong it is an older one.
+function showTree({ tree = [], broken = {}, wrong }) {
+    if (wrong) return;
+    at("tree").firstElementChild.replaceChildren(...tree.map(({ text: content, group }) => {
+        const row = document.createElement("div");
+        const isBroken = group !== undefined && broken[group];
+        row.textContent = isBroken ? `${content}: broken` : content;
+        row.className = isBroken ? "broken" : "";
+        return row;
+    }));
 }
 
 // The fault
@@ -184,8 +244,10 @@ function goToFault() {
 
 // The options
 
+const CHECKS = ["fill", "groups", "drawn"];
+
 function options() {
-    return { language: language(), ...numbers, fill: at("fill").checked };
+    return { language: language(), ...numbers, ...Object.fromEntries(CHECKS.map((it) => [it, at(it).checked])) };
 }
 
 // The numbers that are used: the nearest to those typed that may be. While none is typed the last one stays.
@@ -207,10 +269,59 @@ function showLanguage() {
     current = language();
     text.value = texts[current];
     // An example is selected, so that what is pasted takes its place.
-    if (text.value === EXAMPLES[current]) text.setSelectionRange(0, text.textLength);
+    if (text.value === EXAMPLES[current] && !isOfDocuments()) text.setSelectionRange(0, text.textLength);
     at("fill").disabled = current !== "json";
     at("promise").textContent = PROMISES[current];
-    at("text-name").textContent = `Text (${NAMES[current]})`;
+    at("text-name").textContent = NAMES[current];
+    showExample();
+}
+
+// Which tab is chosen, and what belongs to it.
+function showTab(tab) {
+    for (const it of tabs) {
+        it.setAttribute("aria-selected", String(it === tab));
+        it.tabIndex = it === tab ? 0 : -1;
+        for (const part of document.getElementsByClassName(it.id)) part.hidden = it !== tab;
+    }
+    at("panel").setAttribute("aria-labelledby", tab.id);
+    showLanguage();
+    showDrawn();
+}
+
+function showDrawn() {
+    layout.classList.toggle("plain", !at("groups").checked);
+    at("tree").hidden = !isOfDocuments() || !at("drawn").checked;
+}
+
+function chooseTab(tab) {
+    showTab(tab);
+    want(0);
+}
+
+// The keys that go from one tab to the other, which is chosen at once.
+function walkTabs(event) {
+    const other = { ArrowLeft: 0, Home: 0, ArrowRight: 1, End: 1 }[event.key];
+    if (other === undefined) return;
+    event.preventDefault();
+    tabs[other].focus();
+    chooseTab(tabs[other]);
+}
+
+// The example that the code is, or that it is another.
+function showExample() {
+    const index = Object.values(DOCUMENTS).indexOf(text.value);
+    at("example").selectedIndex = index < 0 ? Object.keys(DOCUMENTS).length : index;
+}
+
+function offerExamples() {
+    const names = [...Object.keys(DOCUMENTS), "Your own"];
+    at("example").replaceChildren(...names.map((it) => new Option(it)));
+    at("example").lastElementChild.disabled = true;
+}
+
+function takeExample() {
+    text.value = DOCUMENTS[at("example").value];
+    want(0);
 }
 
 // Options and short texts are kept over a reload, where the browser keeps anything for such a page. An empty text is
@@ -235,15 +346,14 @@ function kept() {
 }
 
 function takeKept() {
-    const { language, width, indent, fill, texts: short } = { language: "json", ...numbers, fill: false, ...kept() };
+    const { language, texts: short, ...others } = { language: "json", ...options(), ...kept() };
     Object.assign(texts, short);
     for (const it of document.getElementsByName("language")) it.checked ||= it.value === language;
-    at("width").value = width;
-    at("indent").value = indent;
-    at("fill").checked = fill;
+    for (const it of Object.keys(numbers)) at(it).value = others[it];
+    for (const it of CHECKS) at(it).checked = others[it];
     Object.keys(numbers).forEach(takeNumber);
     text.value = texts[current];
-    showLanguage();
+    showTab(at(language === "documents" ? "of-documents" : "of-texts"));
 }
 
 function drawRuler() {
@@ -273,13 +383,14 @@ async function copy() {
     }
 }
 
+offerExamples();
 takeKept();
 drawRuler();
 say("Loading.", false);
-const worker = startWorker();
+let worker = startWorker();
 want(0);
 
-text.addEventListener("input", () => want(text.textLength > SHORT ? PAUSE : 0));
+text.addEventListener("input", () => { showExample(); want(text.textLength > SHORT ? PAUSE : 0); });
 text.addEventListener("scroll", followScroll, { passive: true });
 for (const id in numbers) {
     at(id).addEventListener("input", () => { takeNumber(id); want(0); });
@@ -291,6 +402,12 @@ at("slider").addEventListener("input", () => {
     want(0);
 });
 at("fill").addEventListener("input", () => want(0));
+for (const it of ["groups", "drawn"]) at(it).addEventListener("input", showDrawn);
+at("example").addEventListener("input", takeExample);
+for (const it of tabs) {
+    it.addEventListener("click", () => chooseTab(it));
+    it.addEventListener("keydown", walkTabs);
+}
 for (const it of document.getElementsByName("language")) {
     it.addEventListener("change", () => { showLanguage(); want(0); });
 }

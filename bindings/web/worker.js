@@ -2,14 +2,28 @@
 
 "use strict";
 
-let formatter;
+let printer;
+
+const isFault = (failure) => failure instanceof errors.JsonError || failure instanceof errors.TomlError;
+
+// The layout of a text, or where it is wrong and what was expected there.
+function textLayout(text, { language, width, indent, fill }) {
+    const format = language === "toml" ? printer.formatToml : printer.formatJson;
+    try {
+        return { layout: format(text, { width, indent, fill }) };
+    } catch (failure) {
+        if (!isFault(failure)) throw failure;
+        const { line, column, expected } = failure;
+        return { fault: { line, column, expected } };
+    }
+}
 
 async function answer({ module, text, options }) {
-    if (module) formatter = WebAssembly.compile(module).then((it) => new Formatter(it));
-    const ready = await formatter;
+    if (module) printer = WebAssembly.compile(module).then((it) => calls.printerOf(it));
+    printer = await printer;
     if (module) return {};
     const begun = performance.now();
-    const answered = ready.format(text, options);
+    const answered = options.language === "documents" ? documentLayout(printer, text, options) : textLayout(text, options);
     return { answered, took: performance.now() - begun };
 }
 
@@ -17,6 +31,7 @@ onmessage = async ({ data }) => {
     try {
         postMessage(await answer(data));
     } catch (failure) {
-        postMessage({ failed: String(failure) });
+        const isShort = failure instanceof errors.MemoryError;
+        postMessage({ failed: isShort ? "there is too little memory" : String(failure) });
     }
 };

@@ -16,7 +16,7 @@ import urllib.request
 # The most that a browser has to start, and to answer a command.
 SECONDS = 120
 ELEMENT = "element-6066-11e4-a52e-4f735466cecf"
-ARROW_LEFT, ARROW_RIGHT, TAB, SPACE, CONTROL = "\ue012", "\ue014", "\ue004", " ", "\ue009"
+ARROW_LEFT, ARROW_RIGHT, ARROW_DOWN, TAB, SPACE, CONTROL = "\ue012", "\ue014", "\ue015", "\ue004", " ", "\ue009"
 
 
 class Failed(Exception):

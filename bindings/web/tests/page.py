@@ -7,7 +7,7 @@ import pathlib
 import subprocess
 import tempfile
 
-from browsers import ARROW_LEFT, ARROW_RIGHT, CONTROL, SPACE, TAB, Chromium, Firefox, waited_for
+from browsers import ARROW_DOWN, ARROW_LEFT, ARROW_RIGHT, CONTROL, SPACE, TAB, Chromium, Firefox, waited_for
 
 LISTS = '{"name":"Ada","list":[1,22,333],"empty":{}}'
 NUMBERS = json.dumps({"numbers": list(range(40)), "nested": [[1, 2], [3, [4.5, -6e7]]], "empty": [[], {}]})
@@ -37,7 +37,41 @@ WIDTHS, INDENTS = (1, 24, 80, 400), (0, 2, 7)
 # What is on what, and the least contrast that it has by WCAG 2.1: 4.5 of texts, 3 of what is drawn.
 CONTRASTS = [("ink", "paper", 4.5), ("ink", "desk", 4.5), ("quiet", "paper", 4.5), ("quiet", "desk", 4.5)]
 CONTRASTS += [("fault", "desk", 4.5), ("ink", "fault-line", 4.5), ("ink", "fault-mark", 4.5)]
-CONTRASTS += [("accent", "paper", 3), ("limit", "paper", 3)]
+CONTRASTS += [("ink", "broken", 4.5), ("ink", "broken-inner", 4.5), ("accent", "paper", 3), ("limit", "paper", 3)]
+
+PACKAGE = pathlib.Path(__file__).resolve().parents[2] / "javascript" / "node.js"
+# Lays the documents of codes out in node, each at its width and indent.
+IN_NODE = """
+import { readFileSync } from "node:fs";
+const y = await import(process.argv[1]);
+const names = Object.keys(y);
+const made = (code) => new Function(...names, code)(...names.map((it) => y[it]));
+const all = JSON.parse(readFileSync(0, "utf8"));
+console.log(JSON.stringify(all.map(([code, width, tabWidth]) => y.layout(made(code), { width, tabWidth }))));
+"""
+# What the examples of documents come to at some widths: how many groups are broken, and how the layout begins.
+CALL = "draw(picture, scale(width, 2), canvas)"
+BROKEN = {
+    "A call": {
+        38: ("0 of 2", CALL),
+        37: ("1 of 2", "draw(\n  picture,\n  scale(width, 2),\n"),
+        17: ("2 of 2", "draw(\n  picture,\n  scale(\n"),
+    },
+    "Comments at the ends of lines": {
+        80: ("0 of 1", "{ width = 80, fill = false, limit = 0 }  // columns  // no limit"),
+        20: ("1 of 1", "{\n  width = 80,  // columns\n"),
+    },
+    "A union and its fallback": {30: ("", "each(keys, options, (key) => {\n  return"), 29: ("", "each(\n  keys,\n")},
+}
+# Code that comes to no layout, and how what is said begins.
+WRONG = {
+    "return group(": "SyntaxError: ",
+    "const it = line;": "TypeError: the code answers no document",
+    "return group(3)": "TypeError: a document is a string, an array",
+    "return ['a', fail]": "no layout: ",
+    "return nest(2000000, [hardline, 'a'])": "the layout is longer than 1000000 bytes",
+    "for (;;);": "The code took more than 3 seconds.",
+}
 
 
 class Wrong(Exception):
@@ -73,8 +107,9 @@ class Page:
         self.script(
             """const [language, text, width, indent, fill] = arguments;
             const changed = (it, how) => it.dispatchEvent(new Event(how, { bubbles: true }));
+            at(language === "documents" ? "of-documents" : "of-texts").click();
             const radio = document.querySelector(`[value=${language}]`);
-            if (!radio.checked) { radio.checked = true; changed(radio, "change"); }
+            if (radio && !radio.checked) { radio.checked = true; changed(radio, "change"); }
             Object.assign(at("fill"), { checked: fill });
             for (const [id, value] of Object.entries({ text, width, indent })) {
                 at(id).value = value;
@@ -88,9 +123,10 @@ class Page:
         """What is shown."""
         return self.script(
             """return {
-                language: document.querySelector("[name=language]:checked").value,
+                language: at("of-documents").getAttribute("aria-selected") === "true"
+                    ? "documents" : document.querySelector("[name=language]:checked").value,
                 text: at("text").value, width: at("width").value, indent: at("indent").value, fill: at("fill").checked,
-                layout: [...at("layout").children].map((it) => it.textContent).join("\\n"),
+                layout: [...at("layout").children].map((it) => it.textContent.replace(/^\\n$/, "")).join("\\n"),
                 status: at("status").textContent, invalid: at("text").getAttribute("aria-invalid"),
                 copy: !at("copy").disabled,
                 marks: !at("marks").hidden, mark: at("mark").textContent, before: at("before").textContent,
@@ -136,6 +172,117 @@ class Page:
 
     def focused(self):
         return self.script("return document.activeElement.id")
+
+
+def laid_in_node(page):
+    """What the package lays the code out as, which is in the page, in node."""
+    state = page.state()
+    asked = json.dumps([[state["text"], int(state["width"]), int(state["indent"])]])
+    words = ["node", "--input-type=module", "--eval", IN_NODE, PACKAGE.as_uri()]
+    ended = subprocess.run(words, input=asked.encode(), stdout=subprocess.PIPE, stderr=subprocess.PIPE)
+    same(f"what node says, {ended.stderr.decode()!r}", ended.returncode, 0)
+    return json.loads(ended.stdout.decode())[0]
+
+
+def compare_document(page):
+    """Compares the layout of a document with the package's in node."""
+    page.settle()
+    state = page.state()
+    same(f"the layout of {state['text'][:80]!r}", state["layout"], laid_in_node(page))
+    same("what is said", state["status"], "Laid out.")
+    page.counts["layouts"] += 1
+
+
+def test_tabs(page):
+    """Goes to the other tab by keys, and picks each example there by keys."""
+    page.put("json", LISTS)
+    page.script("at('of-texts').focus()")
+    page.browser.keys("#of-texts", ARROW_RIGHT)
+    same("the tab", (page.focused(), page.state()["language"]), ("of-documents", "documents"))
+    compare_document(page)
+    names = page.script("return [...at('example').options].filter((it) => !it.disabled).map((it) => it.value)")
+    same("how many examples there are", len(names), 5)
+    for name in names[1:]:
+        page.browser.keys("#example", ARROW_DOWN)
+        same("the example", page.script("return at('example').value"), name)
+        compare_document(page)
+    page.browser.keys("#text", " ")
+    same("the example of another code", page.script("return at('example').value"), "Your own")
+    page.script("at('of-documents').focus()")
+    page.browser.keys("#of-documents", ARROW_LEFT)
+    page.settle()
+    same("the text after a walk to documents and back", page.state()["text"], LISTS)
+    page.compare()
+
+
+def examples(page):
+    """The codes of the examples, by their names: each is picked."""
+    return page.script(
+        """at("of-documents").click();
+        const pick = (name) => {
+            at("example").value = name;
+            at("example").dispatchEvent(new Event("input"));
+            return [name, at("text").value];
+        };
+        return Object.fromEntries([...at("example").options].filter((it) => !it.disabled).map((it) => pick(it.value)));"""
+    )
+
+
+def test_documents(page):
+    """Each example at many widths, and which groups of some of them are broken."""
+    for code in examples(page).values():
+        for width in (1, 10, 20, 30, 40, 80):
+            page.put("documents", code, width, 4)
+            compare_document(page)
+    for name, layouts in BROKEN.items():
+        for width, (broken, layout) in layouts.items():
+            page.put("documents", examples(page)[name], width, 2)
+            compare_document(page)
+            same(f"how {name} begins at {width}", page.state()["layout"][: len(layout)], layout)
+            figures = page.script("return at('figures').textContent")
+            same(f"how many groups of {name} are broken at {width}", figures.split(" group")[0] if " group" in figures else "", broken)
+    page.put("documents", "return ['a', hardline, hardline, group(['b', weakSpace])]")
+    compare_document(page)
+
+
+def test_tree(page):
+    """The tree, and the marks of broken groups, are shown and hidden by keys."""
+    page.put("documents", examples(page)["A call"], 37, 2)
+    marked = "return getComputedStyle(document.querySelector('#layout .broken')).backgroundColor"
+    tint = page.script(marked)
+    page.browser.keys("#groups", SPACE)
+    same("the tint without marks", page.script(marked), "rgba(0, 0, 0, 0)")
+    page.browser.keys("#groups", SPACE)
+    same("the tint with marks", page.script(marked), tint)
+    same("whether a tree is shown at first", page.script("return at('tree').hidden"), True)
+    page.browser.keys("#drawn", SPACE)
+    rows = page.script("return [...at('tree').firstElementChild.children].map((it) => it.textContent)")
+    same("the tree's begin", rows[:3], ["group: broken", "└ array", '  ├ "draw"'])
+    same("the inner group", [it.strip("│├└ ") for it in rows if "group" in it], ["group: broken", "group"])
+    same("whether the tree is seen", page.script("return at('tree').getBoundingClientRect().height > 50"), True)
+    page.browser.keys("#drawn", SPACE)
+
+
+def test_wrong_codes(page):
+    """What is said of code that comes to no layout; and after it others do."""
+    for code, said in WRONG.items():
+        page.put("documents", code)
+        same(f"what is said of {code}", page.state()["status"][: len(said)], said)
+        same("whether the layout is stale", page.script("return at('layout').className"), "stale")
+        page.put("documents", "return group(['a', line, 'b'])", 2)
+        compare_document(page)
+
+
+def test_documents_kept(page):
+    """The code and its options are as they were after a reload."""
+    page.put("documents", "return ['kept', hardline]", 33, 5)
+    page.browser.keys("#drawn", SPACE)
+    page.open()
+    compare_document(page)
+    kept = page.script("return [at('text').value, at('width').value, at('drawn').checked, at('tree').hidden]")
+    same("what is kept", kept, ["return ['kept', hardline]", "33", True, False])
+    page.browser.keys("#drawn", SPACE)
+    page.put("json", LISTS)
 
 
 def clear(page):
@@ -355,6 +502,13 @@ def picture(page, name):
     page.browser.picture(f"{name}.png")
 
 
+def picture_of_documents(page, name):
+    page.put("documents", examples(page)["A call"], 30, 2)
+    page.script("at('drawn').click()")
+    picture(page, name)
+    page.script("at('drawn').click()")
+
+
 def test_dark(kind, path, formatters, pictures):
     with kind(dark=True) as browser:
         page = Page(browser, path, formatters)
@@ -363,6 +517,7 @@ def test_dark(kind, path, formatters, pictures):
         page.put("json", '{"name": "Ada Lovelace",\n "born": 1815,\n "langs": ["en", "fr" "de"]}')
         picture(page, f"{pictures}/{kind.name.lower()}_dark")
         page.compare_fault()
+        picture_of_documents(page, f"{pictures}/{kind.name.lower()}_documents_dark")
 
 
 def test_in(kind, path, formatters, pictures):
@@ -375,6 +530,9 @@ def test_in(kind, path, formatters, pictures):
             test(page)
         for test in (test_blank, test_mark, test_select, test_small, test_contrasts):
             test(page)
+        for test in (test_tabs, test_documents, test_tree, test_wrong_codes, test_documents_kept):
+            test(page)
+        picture_of_documents(page, f"{pictures}/{kind.name.lower()}_documents")
         took, wait = test_large(page)
     test_nothing_kept(kind, path, formatters)
     test_dark(kind, path, formatters, pictures)
