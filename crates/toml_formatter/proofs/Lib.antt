@@ -2,6 +2,7 @@ pub mod SoundTexts
 pub mod Stages
 pub mod StatementLemmas
 pub mod DepthLemmas
+pub mod DraftLemmas
 pub mod Documents
 pub mod LineLemmas
 pub mod Trims

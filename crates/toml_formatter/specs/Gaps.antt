@@ -3,6 +3,8 @@ use Rattle.std.specs.Prelude.{◌≡◌, ℕ, Bool, true, false, cond, List, [],
 use Rattle.prettyless_model.specs.Shows as shown
 use Rattle.prettyless_model.specs.Shows.{Least, Spacing, LineEnd, more, Item, spaced, apart, ended, loose}
 use Rattle.toml_lexemes.specs.Bytes.{is_quote, ends_word}
+use Rattle.toml_grammar.specs.Sorts as sort
+use Rattle.toml_grammar.specs.Sorts.{Sort}
 use Rattle.toml_formatter.specs.declared.gaps.Gap.{Gap}
 use Rattle.toml_formatter.specs.declared.gaps.Gap.TheVariants.{Nothing, Space, Edge, Line, BlankLine, Break, BlankBreak}
 use Rattle.toml_formatter.specs.declared.kind.Kind.{Kind}
@@ -70,3 +72,61 @@ least_needed Remark y = LineEnd
 pub record Suits (nested : Bool) (last : Last) (y : ℕ) (gap : Gap) : Type 0 where
   pub enough : more (least_needed last y) (least_of gap) ≡ least_of gap
   pub stays : nested ≡ false → stays gap ≡ true
+
+-- ---- which gap it is
+
+-- a line end, with a blank line or without
+abbrev pub line_break : Bool → Gap
+line_break blank = cond blank BlankBreak Break
+
+-- after the comma of a list
+abbrev pub gap_after_comma : Kind → Bool → Gap
+gap_after_comma Statement blank = Space
+gap_after_comma Header blank = Space
+gap_after_comma Table blank = Space
+gap_after_comma Array blank = cond blank BlankLine Line
+
+-- inside the brackets of a list
+abbrev pub edge_gap : Kind → Gap
+edge_gap Statement = Nothing
+edge_gap Header = Nothing
+edge_gap Table = Space
+edge_gap Array = Edge
+
+-- before a lexeme of this sort of the same key or value
+abbrev pub gap_between : Last → Sort → Gap
+gap_between Equals s = Space
+gap_between l sort.equals = Space
+gap_between Word sort.word = Space
+gap_between String sort.string = Space
+gap_between l s = Nothing
+
+-- before a lexeme of this sort that begins a value or goes on with one
+abbrev pub gap_before : Kind → Last → Sort → Bool → Gap
+gap_before kind Start s blank = edge_gap kind
+gap_before kind Comma s blank = gap_after_comma kind blank
+gap_before kind Remark s blank = line_break blank
+gap_before kind l s blank = gap_between l s
+
+-- before a comma
+abbrev pub gap_before_comma : Last → Gap
+gap_before_comma Remark = Break
+gap_before_comma l = Nothing
+
+-- before a remark, where no line ended and where one did; a blank line after an opening bracket goes
+abbrev pub gap_before_first_remark : Kind → Last → Bool → Bool → Gap
+gap_before_first_remark kind Remark broken blank = line_break blank
+gap_before_first_remark Statement l broken blank = Space
+gap_before_first_remark kind Start broken blank = cond broken Break Space
+gap_before_first_remark kind l broken blank = cond broken (line_break blank) Space
+
+-- before a remark, which other remarks stand before or not
+abbrev pub gap_before_remark : Kind → Last → Bool → Bool → Bool → Gap
+gap_before_remark kind l true broken blank = line_break blank
+gap_before_remark kind l false broken blank = gap_before_first_remark kind l broken blank
+
+-- before the bracket that closes a list
+abbrev pub gap_before_close : Kind → Last → Gap
+gap_before_close kind Start = Nothing
+gap_before_close kind Remark = Break
+gap_before_close kind l = edge_gap kind

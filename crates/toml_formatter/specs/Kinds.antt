@@ -2,6 +2,10 @@
 use Rattle.std.specs.Prelude.{Bool, true, false, ⊤}
 use Rattle.toml_lexemes.specs.declared.lexeme.Lexeme.{Lexeme}
 use Rattle.toml_lexemes.specs.declared.lexeme.Lexeme.TheVariants as lexeme
+use Rattle.toml_grammar.specs.Sorts as sort
+use Rattle.toml_grammar.specs.Sorts.{Sort}
+use Rattle.toml_formatter.specs.declared.kind.Kind.{Kind}
+use Rattle.toml_formatter.specs.declared.kind.Kind.TheVariants.{Statement, Header, Table, Array}
 use Rattle.toml_formatter.specs.declared.kind.Last.{Last}
 use Rattle.toml_formatter.specs.declared.kind.Last.TheVariants as last
 
@@ -54,3 +58,38 @@ last_after lexeme.LineEnd = last.Close
 last_after (lexeme.Remark s) = last.Close
 last_after (lexeme.String s) = last.String
 last_after (lexeme.Word s) = last.Word
+
+-- its sort
+abbrev pub sort_for : Lexeme → Sort
+sort_for lexeme.OpenArray = sort.open_array
+sort_for lexeme.CloseArray = sort.close_array
+sort_for lexeme.OpenTable = sort.open_table
+sort_for lexeme.CloseTable = sort.close_table
+sort_for lexeme.Comma = sort.comma
+sort_for lexeme.Equals = sort.equals
+sort_for lexeme.LineEnd = sort.line_end
+sort_for (lexeme.Remark s) = sort.remark
+sort_for (lexeme.String s) = sort.string
+sort_for (lexeme.Word s) = sort.word
+
+-- what a document ends with after a value that begins with a lexeme of this sort
+abbrev pub last_after_sort : Sort → Last
+last_after_sort sort.comma = last.Comma
+last_after_sort sort.remark = last.Remark
+last_after_sort sort.equals = last.Equals
+last_after_sort sort.string = last.String
+last_after_sort sort.word = last.Word
+last_after_sort s = last.Close
+
+-- what `[` opens where it stands in this
+abbrev pub array_in : Kind → Bool → Kind
+array_in Statement true = Header
+array_in Statement false = Array
+array_in Header first = Header
+array_in Table first = Array
+array_in Array first = Array
+
+-- what a bracket of this sort opens where it stands in this, first or not
+abbrev pub kind_in : Kind → Bool → Sort → Kind
+kind_in around first sort.open_array = array_in around first
+kind_in around first s = Table

@@ -6,3 +6,5 @@ pub mod Kinds
 pub mod Lexing
 pub mod Lines
 pub mod Ahead
+pub mod Documents
+pub mod Drafts

@@ -3,6 +3,7 @@ ghost use Rattle.std.specs.Prelude.{◌≡◌, ◌++◌, ◌∷◌, ℕ, List, f
 ghost use Rattle.prettyless.specs.Trees.{ref_tree};
 ghost use Rattle.toml_lexemes.specs.Lexemes.{toml_lexemes_of};
 ghost use Rattle.toml_grammar.specs.Nesting.{is_too_deep};
+ghost use Rattle.toml_formatter.specs.Documents.{lines_with, toml_document};
 ghost use Rattle.toml_formatter.specs.Errors.{IsFormatMemory, IsRefusalOf};
 ghost use Rattle.toml_statements.specs.Sound.{AreSound};
 ghost use Rattle.toml_formatter.specs.Lines.{HasStatements, IsDocument, TakesStatement};
@@ -26,6 +27,7 @@ fn with_statement<'a>(
     ensures made { IfOk result (λ p. (s : List ℕ) (old left taken : List (List ℕ)) → IsDocument (s ∷ old) taken (ref_tree doc.entry)
         → TakesStatement (s ∷ old) left (ref_tree statement.entry)
         → (more : List (List ℕ)) × (s ∷ old ≡ more ++ left) × IsDocument left (taken ++ more) (ref_tree p)) }
+    ensures tree { IfOk result (λ p. ref_tree p ≡ lines_with blank (ref_tree doc.entry) (ref_tree statement.entry)) }
     ensures err { IfErr result IsFormatMemory }
 {
     let line = ended(arena, statement)?;
@@ -44,6 +46,7 @@ pub(crate) fn document<'a>(
 ) -> Result<RefDoc<'a>, FormatError>
     requires { AreSound (toml_lexemes_of text.now) }
     ensures made { IfOk result (λ p. HasStatements text.now (ref_tree p)) }
+    ensures tree { IfOk result (λ p. ref_tree p ≡ toml_document style (toml_lexemes_of text.now)) }
     ensures shallow { OnOk result (is_too_deep text.now ≡ false) }
     ensures err { IfErr result (IsRefusalOf text.now) }
 {

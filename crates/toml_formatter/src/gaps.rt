@@ -3,7 +3,9 @@ ghost use Rattle.std.specs.Prelude.{◌≡◌, true, false};
 ghost use Rattle.prettyless_model.specs.Shows.{LineEnd, Spacing, more};
 ghost use Rattle.toml_lexemes.specs.Bytes.{comma, close_bracket, hash, head};
 ghost use Rattle.toml_lexemes.specs.View.{toml_text_of, HasTomlKind};
+ghost use Rattle.toml_formatter.specs.Gaps as spec;
 ghost use Rattle.toml_formatter.specs.Gaps.{is_nested, is_last_remark, least_needed, least_of, stays, Suits};
+ghost use Rattle.toml_formatter.specs.Kinds.{sort_for};
 
 use crate::kind::{Kind, Last};
 use toml_lexemes::Lexeme;
@@ -27,14 +29,16 @@ pub(crate) enum Gap {
 
 /// A line end, with a blank line or without.
 fn line_break(blank: bool) -> Gap
-    ensures { least_of result ≡ LineEnd }
+    ensures least { least_of result ≡ LineEnd }
+    ensures gap { result ≡ spec.line_break blank }
 {
     if blank { Gap::BlankBreak } else { Gap::Break }
 }
 
 /// What is after the comma of a list.
 fn after_comma(kind: Kind, blank: bool) -> Gap
-    ensures { is_nested kind ≡ false → stays result ≡ true }
+    ensures stays { is_nested kind ≡ false → stays result ≡ true }
+    ensures gap { result ≡ spec.gap_after_comma kind blank }
 {
     match kind {
         Kind::Array if blank => Gap::BlankLine,
@@ -45,7 +49,8 @@ fn after_comma(kind: Kind, blank: bool) -> Gap
 
 /// What is inside the brackets of a list.
 fn edge(kind: Kind) -> Gap
-    ensures { is_nested kind ≡ false → stays result ≡ true }
+    ensures stays { is_nested kind ≡ false → stays result ≡ true }
+    ensures gap { result ≡ spec.edge_gap kind }
 {
     match kind {
         Kind::Array => Gap::Edge,
@@ -60,6 +65,7 @@ fn between(last: Last, next: Lexeme<'_>) -> Gap
     requires no_remark { is_last_remark last ≡ false }
     ensures enough { more (least_needed last (head (toml_text_of next.entry))) (least_of result) ≡ least_of result }
     ensures stays { stays result ≡ true }
+    ensures gap { result ≡ spec.gap_between last (sort_for next.entry) }
 {
     match (last, next) {
         (_, Lexeme::Equals) | (Last::Equals, _) => Gap::Space,
@@ -72,7 +78,8 @@ fn between(last: Last, next: Lexeme<'_>) -> Gap
 pub(crate) fn before(kind: Kind, last: Last, next: Lexeme<'_>, blank: bool) -> Gap
     requires named { HasTomlKind next }
     requires goes_on { is_nested kind ≡ false → is_last_remark last ≡ false }
-    ensures { Suits (is_nested kind) last (head (toml_text_of next.entry)) result }
+    ensures suits { Suits (is_nested kind) last (head (toml_text_of next.entry)) result }
+    ensures gap { result ≡ spec.gap_before kind last (sort_for next.entry) blank }
 {
     match last {
         Last::Start => edge(kind),
@@ -86,6 +93,7 @@ pub(crate) fn before(kind: Kind, last: Last, next: Lexeme<'_>, blank: bool) -> G
 pub(crate) fn before_comma(last: Last) -> Gap
     ensures enough { more (least_needed last comma) (least_of result) ≡ least_of result }
     ensures stays { is_last_remark last ≡ false → stays result ≡ true }
+    ensures gap { result ≡ spec.gap_before_comma last }
 {
     match last {
         Last::Remark => Gap::Break,
@@ -100,6 +108,7 @@ pub(crate) fn before_remark(kind: Kind, last: Last, others: bool, broken: bool, 
     ensures others { others ≡ true → least_of result ≡ LineEnd }
     ensures stays { is_nested kind ≡ false → others ≡ false → stays result ≡ true }
     ensures spacing { more Spacing (least_of result) ≡ least_of result }
+    ensures gap { result ≡ spec.gap_before_remark kind last others broken blank }
 {
     match (kind, last) {
         _ if others => line_break(blank),
@@ -114,7 +123,8 @@ pub(crate) fn before_remark(kind: Kind, last: Last, others: bool, broken: bool, 
 /// What is before the bracket that closes a list.
 pub(crate) fn before_close(kind: Kind, last: Last) -> Gap
     requires { is_nested kind ≡ true }
-    ensures { Suits (is_nested kind) last close_bracket result }
+    ensures suits { Suits (is_nested kind) last close_bracket result }
+    ensures gap { result ≡ spec.gap_before_close kind last }
 {
     match last {
         Last::Start => Gap::Nothing,

@@ -1,6 +1,6 @@
 //! What lexemes are to a layout.
 ghost use Rattle.std.specs.Prelude.{◌≡◌, true};
-ghost use Rattle.toml_formatter.specs.Kinds.{is_closing, is_opening, last_after};
+ghost use Rattle.toml_formatter.specs.Kinds.{is_closing, is_opening, kind_in, last_after, sort_for};
 ghost use Rattle.toml_formatter.specs.Gaps.{is_nested};
 
 use toml_lexemes::Lexeme;
@@ -60,7 +60,8 @@ pub(crate) fn last_of(lexeme: Lexeme<'_>) -> Last
 
 /// What the bracket opens where it stands in this, first or not.
 pub(crate) fn kind_of(around: Kind, is_first: bool, bracket: Lexeme<'_>) -> Kind
-    ensures { is_nested result ≡ true }
+    ensures nested { is_nested result ≡ true }
+    ensures kind { result ≡ kind_in around is_first (sort_for bracket.entry) }
 {
     match (around, bracket) {
         (Kind::Statement, Lexeme::OpenArray) if is_first => Kind::Header,

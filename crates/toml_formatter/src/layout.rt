@@ -6,7 +6,7 @@ ghost use Rattle.prettyless.specs.Layout.{Whole, layout};
 ghost use Rattle.toml_lexemes.specs.Lexemes.{toml_lexemes_of};
 ghost use Rattle.toml_grammar.specs.Nesting.{is_too_deep};
 ghost use Rattle.toml_formatter.specs.Errors.{IsFormatMemory, IsRefusalOf};
-ghost use Rattle.toml_formatter.specs.Formats.{IsFormattedToml, IsRefusedToml, IsTomlLayout};
+ghost use Rattle.toml_formatter.specs.Formats.{HasTomlOptions, IsFormattedToml, IsLaidToml, IsRefusedToml, IsTomlLayout};
 ghost use Rattle.toml_statements.specs.Sound.{AreSound};
 
 use crate::document::document;
@@ -35,7 +35,9 @@ fn line_ending(text: &str) -> LineEnding {
 }
 
 /// What a text is laid out with.
-fn options(text: &str, style: Style) -> RenderOptions {
+fn options(text: &str, style: Style) -> RenderOptions
+    ensures { HasTomlOptions style result }
+{
     RenderOptions::new(style.width)
         .with_line_ending(line_ending(text))
         .with_indentation_policy(IndentationPolicy::Deferred)
@@ -72,6 +74,7 @@ fn laid<'a>(
 ) -> Result<String, FormatError>
     requires { AreSound (toml_lexemes_of text.now) }
     ensures ok { IfOk result (λ layout. IsTomlLayout text.now (string_bytes layout)) }
+    ensures laid { IfOk result (λ layout. IsLaidToml style text.now (string_bytes layout)) }
     ensures shallow { OnOk result (is_too_deep text.now ≡ false) }
     ensures err { IfErr result (IsRefusalOf text.now) }
 {
@@ -83,6 +86,7 @@ fn laid<'a>(
 fn laid_out(alloc: Global, text: &str, style: Style) -> Result<String, FormatError>
     requires { AreSound (toml_lexemes_of text.now) }
     ensures ok { IfOk result (λ layout. IsTomlLayout text.now (string_bytes layout)) }
+    ensures laid { IfOk result (λ layout. IsLaidToml style text.now (string_bytes layout)) }
     ensures shallow { OnOk result (is_too_deep text.now ≡ false) }
     ensures err { IfErr result (IsRefusalOf text.now) }
 {
@@ -93,18 +97,19 @@ fn laid_out(alloc: Global, text: &str, style: Style) -> Result<String, FormatErr
 
 /// The layout of a TOML text in this style. It is TOML too, and has the same statements: the same lexemes in the same
 /// order, remarks among them. Three things may differ: line ends in brackets, commas before closing brackets, and
-/// remarks before a comma, which stand after it. Its lines end as the first line of the text does that ends outside of
-/// strings. It ends with a line end, unless it is empty.
+/// remarks before a comma, which stand after it. How it is laid out, its document says (`toml_document`). Its lines end as
+/// the first line of the text does that ends outside of strings. It ends with a line end, unless it is empty.
 ///
 /// `NotToml` only where the text is no TOML, and `TooDeep` only where it is TOML and more than 128 brackets are in one
 /// another. `LayoutNotToml` only where the layout that was made is no TOML, which is judged before it is answered.
-/// `Memory` where memory is refused, whatever the text is. No clause speaks of the layout's line ends.
+/// `Memory` where memory is refused, whatever the text is.
 ///
 /// ```
 /// formatted(alloc, "a=1", Style::default())? // "a = 1\n"
 /// ```
 pub fn formatted(alloc: Global, text: &str, style: Style) -> Result<String, FormatError>
     ensures ok { IfOk result (λ layout. IsFormattedToml text.now (string_bytes layout)) }
+    ensures laid { IfOk result (λ layout. IsLaidToml style text.now (string_bytes layout)) }
     ensures err { IfErr result (IsRefusedToml text.now) }
 {
     match fault_of(alloc, text)? {

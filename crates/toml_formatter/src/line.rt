@@ -1,12 +1,16 @@
 //! The document of a line or of what is in brackets, while its lexemes are taken.
-ghost use Rattle.std.specs.Prelude.{◌≡◌, ◌++◌, ◌⊎◌, ◌∷◌, [], ℕ, Bool, List, true, false, ◌||◌, IfOk};
+ghost use Rattle.std.specs.Prelude.{◌≡◌, ◌++◌, ◌⊎◌, ◌∷◌, [], ℕ, Bool, List, true, false, ◌&&◌, ◌||◌, IfOk};
 ghost use Rattle.prettyless.specs.Trees.{ref_tree};
 ghost use Rattle.toml_lexemes.specs.Bytes.{comma, hash, head, line_feed};
 ghost use Rattle.toml_lexemes.specs.View.{toml_text_of, HasTomlKind};
 ghost use Rattle.toml_statements.specs.Statements.{role, trimmed, a_closing};
 ghost use Rattle.toml_statements.specs.Shown.{IsWholeLexeme};
 ghost use Rattle.toml_formatter.specs.Gaps.{is_nested, is_last_remark};
+ghost use Rattle.toml_formatter.specs.Documents as document;
+ghost use Rattle.toml_formatter.specs.Documents.{Level, after_comma, after_remarks, closed_end, comma_kept, ends_item, is_array};
+ghost use Rattle.toml_formatter.specs.Drafts.{Stands, line_end, settled_end};
 ghost use Rattle.toml_formatter.specs.Kinds.{last_after, IsPart};
+ghost use Rattle.toml_formatter.specs.declared.kind.Kind.{Kind};
 ghost use Rattle.toml_formatter.specs.Lines.{begun, may_hold, IsValue, ShowsTaken, IsClosed, TakesMore};
 
 use crate::gaps::{before, before_comma, before_remark};
@@ -60,15 +64,17 @@ impl<'a> Line<'a> {
 
     /// No lexeme of a list.
     pub(crate) fn new(arena: &'a Arena<'a>) -> Result<Line<'a>, BuildError>
-        ensures { IfOk result (λ line. (left : List (List ℕ)) → ShowsTaken true true line left []) }
+        ensures line { IfOk result (λ line. (left : List (List ℕ)) → ShowsTaken true true line left []) }
+        ensures stands { IfOk result (λ line. (kind : Kind) (opening : List ℕ) → Stands (document.new_level kind opening) line) }
     {
         Ok(Line::begun(nil(arena)?, Last::Start))
     }
 
     /// The same with a line end in brackets after it.
     pub(crate) fn with_line_end(self) -> Line<'a>
-        ensures { (left taken : List (List ℕ)) → ShowsTaken true true self.entry ((line_feed ∷ []) ∷ left) taken
+        ensures line { (left taken : List (List ℕ)) → ShowsTaken true true self.entry ((line_feed ∷ []) ∷ left) taken
             → ShowsTaken true true result left (taken ++ (line_feed ∷ []) ∷ []) }
+        ensures stands { (lv : Level) → Stands lv self.entry → Stands (document.with_line_end lv) result }
     {
         Line {
             broken: true,
@@ -85,6 +91,9 @@ impl<'a> Line<'a> {
         ensures no_comma { IfOk result (λ line. line.comma ≡ false) }
         ensures remarked { IfOk result (λ line. line.is_remarked ≡ self.entry.is_remarked) }
         ensures last { IfOk result (λ line. is_last_remark self.entry.last ≡ false → is_last_remark line.last ≡ false) }
+        ensures end { IfOk result (λ line. line_end line ≡ after_comma self.entry.comma (line_end self.entry)) }
+        ensures remarks { IfOk result (λ line. line.remarks ≡ self.entry.remarks) }
+        ensures blank { IfOk result (λ line. line.blank ≡ self.entry.blank) }
     {
         if !self.comma {
             return Ok(self);
@@ -107,6 +116,9 @@ impl<'a> Line<'a> {
         ensures remarked { IfOk result (λ line. line.is_remarked ≡ false) }
         ensures last { IfOk result (λ line. self.entry.is_remarked ≡ false → is_last_remark self.entry.last ≡ false
             → is_last_remark line.last ≡ false) }
+        ensures end { IfOk result (λ line. line_end line
+            ≡ after_remarks self.entry.is_remarked (ref_tree self.entry.remarks) (line_end self.entry)) }
+        ensures blank { IfOk result (λ line. line.blank ≡ self.entry.blank) }
     {
         if !self.is_remarked {
             return Ok(self);
@@ -129,6 +141,8 @@ impl<'a> Line<'a> {
         ensures no_remarks { IfOk result (λ line. line.is_remarked ≡ false) }
         ensures last { IfOk result (λ line. self.entry.is_remarked ≡ false → is_last_remark self.entry.last ≡ false
             → is_last_remark line.last ≡ false) }
+        ensures end { IfOk result (λ line. line_end line ≡ settled_end self.entry) }
+        ensures blank { IfOk result (λ line. line.blank ≡ self.entry.blank) }
     {
         self.with_settled_comma(arena)?.with_settled_remarks(arena)
     }
@@ -148,6 +162,7 @@ impl<'a> Line<'a> {
             → ShowsTaken nested true result left (taken ++ (comma ∷ []) ∷ []) }
         ensures last { result.last ≡ self.entry.last }
         ensures remarked { result.is_remarked ≡ self.entry.is_remarked }
+        ensures made { result ≡ record self.entry { comma = true; broken = false; blank = false } }
     {
         Line {
             comma: true,
@@ -163,6 +178,7 @@ impl<'a> Line<'a> {
             → ShowsTaken nested true self.entry ((comma ∷ []) ∷ left) taken
             → ShowsTaken nested true line left (taken ++ (comma ∷ []) ∷ [])) }
         ensures goes_on { IfOk result (λ line. (nested : Bool) → TakesMore nested self.entry → TakesMore nested line) }
+        ensures stands { IfOk result (λ line. (lv : Level) → Stands lv self.entry → Stands (document.with_comma lv) line) }
     {
         if self.settles() {
             return Ok(self.settled(arena)?.with_waiting_comma());
@@ -197,6 +213,8 @@ impl<'a> Line<'a> {
             → ShowsTaken (is_nested kind) true self.entry (remark.now ∷ left) taken
             → ShowsTaken (is_nested kind) true line left (taken ++ remark.now ∷ [])) }
         ensures last { IfOk result (λ line. line.last ≡ self.entry.last) }
+        ensures stands { IfOk result (λ line. (lv : Level) → lv.kind ≡ kind → Stands lv self.entry
+            → Stands (document.with_remark lv remark.now) line) }
     {
         let gap = before_remark(kind, self.last, self.is_remarked, self.broken, self.blank);
         let remark = remark_text(arena, trimmed(remark))?;
@@ -225,6 +243,8 @@ impl<'a> Line<'a> {
             → IsValue (last_after first.entry) (toml_text_of first.entry) left more (ref_tree value.entry)
             → ShowsTaken (is_nested kind) true line left (taken ++ (toml_text_of first.entry ∷ more))) }
         ensures goes_on { IfOk result (λ line. TakesMore (is_nested kind) line) }
+        ensures stands { IfOk result (λ line. (lv : Level) → lv.kind ≡ kind → Stands lv self.entry
+            → Stands (document.with_part lv (toml_text_of first.entry) (ref_tree value.entry)) line) }
     {
         let line = self.settled(arena)?;
         let gap = before(kind, line.last, first, line.blank);
@@ -240,7 +260,8 @@ impl<'a> Line<'a> {
 
     /// Whether the comma that waits, or one that may be added, stands in front of the remarks before a closing bracket.
     fn keeps_comma(self, kind: Kind) -> bool
-        ensures { may_hold self.entry.last ≡ true → result ≡ self.entry.comma }
+        ensures held { may_hold self.entry.last ≡ true → result ≡ self.entry.comma }
+        ensures kept { result ≡ comma_kept kind self.entry.last self.entry.comma self.entry.is_remarked }
     {
         match (kind, self.last) {
             (_, Last::Comma | Last::Remark) => self.comma,
@@ -255,6 +276,7 @@ impl<'a> Line<'a> {
     fn may_trail(self, kind: Kind) -> bool
         ensures plain { result ≡ true → may_hold self.entry.last ≡ false }
         ensures nested { result ≡ true → is_nested kind ≡ true }
+        ensures trails { result ≡ (is_array kind && ends_item self.entry.last) }
     {
         matches!(
             (kind, self.last),
@@ -273,6 +295,7 @@ impl<'a> Line<'a> {
             → is_last_remark line.last ≡ false) }
         ensures closed { IfOk result (λ line. (x : List ℕ) (left taken : List (List ℕ)) → role x ≡ a_closing
             → ShowsTaken (is_nested kind) true self.entry (x ∷ left) taken → IsClosed (is_nested kind) line x taken) }
+        ensures end { IfOk result (λ line. (lv : Level) → lv.kind ≡ kind → Stands lv self.entry → line_end line ≡ closed_end lv) }
     {
         let line = Line {
             comma: self.keeps_comma(kind),

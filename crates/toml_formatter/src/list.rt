@@ -3,6 +3,8 @@ ghost use Rattle.std.specs.Prelude.{◌≡◌, ◌++◌, ◌≤◌, ◌∷◌, [
 ghost use Rattle.prettyless.specs.Trees.{ref_tree};
 ghost use Rattle.toml_lexemes.specs.View.{toml_text_of, HasTomlKind};
 ghost use Rattle.toml_formatter.specs.Depths.{TakesWithin};
+ghost use Rattle.toml_formatter.specs.Documents.{Level, indent_in, level_end, list_tree, new_level, unclosed_tree};
+ghost use Rattle.toml_formatter.specs.Drafts.{ReadsOn, ReadsPart, Stands};
 ghost use Rattle.toml_formatter.specs.Errors.{IsFormatMemory, IsRefusalWithin};
 ghost use Rattle.toml_formatter.specs.Gaps.{is_nested};
 ghost use Rattle.toml_formatter.specs.Kinds.{is_closing, is_opening, last_after, IsPart};
@@ -28,6 +30,16 @@ pub(crate) struct Setting<'a> {
     pub(crate) style: Style,
 }
 
+/// By how many columns what is in brackets of this kind is indented.
+fn indent_in(kind: Kind, style: Style) -> u32
+    ensures { result ≡ indent_in style kind }
+{
+    match kind {
+        Kind::Array => style.indent,
+        _ => 0,
+    }
+}
+
 /// A list of this kind, which was opened by this bracket and has this line in it.
 fn closed<'a>(
     setting: &Setting<'a>,
@@ -42,16 +54,14 @@ fn closed<'a>(
     ensures made { IfOk result (λ p. (left taken : List (List ℕ)) → IsSound (toml_text_of close.entry) left
         → ShowsTaken true true line.entry (toml_text_of close.entry ∷ left) taken
         → IsValue (last_after bracket.entry) (toml_text_of bracket.entry) left (taken ++ toml_text_of close.entry ∷ []) (ref_tree p)) }
+    ensures tree { IfOk result (λ p. (lv : Level) → lv.kind ≡ kind → lv.opening ≡ toml_text_of bracket.entry → Stands lv line.entry
+        → ref_tree p ≡ list_tree setting.now.style lv (toml_text_of close.entry)) }
     ensures err { IfErr result IsFormatMemory }
 {
     let arena = setting.arena;
     let line = line.closed(arena, kind)?;
     let inner = joined(arena, text(arena, bracket.text())?, line.doc)?;
-    let columns = match kind {
-        Kind::Array => setting.style.indent,
-        _ => 0,
-    };
-    let nested = indented(arena, inner, columns)?;
+    let nested = indented(arena, inner, indent_in(kind, setting.style))?;
     let gap = before_close(kind, line.last);
     let doc = apart(arena, nested, gap, text(arena, close.text())?)?;
     Ok(grouped(arena, doc)?)
@@ -66,6 +76,8 @@ fn unclosed<'a>(
     requires { is_opening bracket ≡ true }
     ensures made { IfOk result (λ p. (taken : List (List ℕ)) → ShowsTaken true true line.entry [] taken
         → IsValue (last_after bracket.entry) (toml_text_of bracket.entry) [] taken (ref_tree p)) }
+    ensures tree { IfOk result (λ p. (lv : Level) → lv.opening ≡ toml_text_of bracket.entry → Stands lv line.entry
+        → ref_tree p ≡ unclosed_tree lv) }
     ensures err { IfErr result IsFormatMemory }
 {
     let arena = setting.arena;
@@ -88,6 +100,8 @@ pub(crate) fn value<'a>(
     requires part { IsPart first }
     ensures made { IfOk result (λ p.
         TakesValue (last_after first.entry) (toml_text_of first.entry) lexemes.old lexemes.new (ref_tree p)) }
+    ensures read { IfOk result (λ p.
+        ReadsPart setting.now.style around is_first (toml_text_of first.entry) lexemes.old lexemes.new (ref_tree p)) }
     ensures fewer { OnOk result (length lexemes.new ≤ length lexemes.old) }
     ensures within { OnOk result (TakesWithin depth (toml_text_of first.entry ∷ lexemes.old) lexemes.new) }
     ensures err { IfErr result (IsRefusalWithin depth (toml_text_of first.entry ∷ lexemes.old)) }
@@ -116,6 +130,8 @@ fn inside<'a>(
 ) -> Result<Line<'a>, FormatError>
     requires { is_nested kind ≡ true }
     ensures made { IfOk result (λ line. TakesLine line lexemes.old lexemes.new) }
+    ensures read { IfOk result (λ line. (opening : List ℕ) →
+        ReadsOn setting.now.style true (new_level kind opening) lexemes.old lexemes.new line) }
     ensures closing { OnOk result (ClosesNext lexemes.new) }
     ensures fewer { OnOk result (length lexemes.new ≤ length lexemes.old) }
     ensures within { OnOk result (TakesWithin depth lexemes.old lexemes.new) }
@@ -146,6 +162,8 @@ fn with_next<'a>(
         → ShowsTaken true true line.entry (toml_text_of next.entry ∷ lexemes.old) taken
         → (more : List (List ℕ)) × (toml_text_of next.entry ∷ lexemes.old ≡ more ++ lexemes.new)
         × ShowsTaken true true made lexemes.new (taken ++ more)) }
+    ensures read { IfOk result (λ made. (lv : Level) → lv.kind ≡ kind → Stands lv line.entry
+        → ReadsOn setting.now.style true lv (toml_text_of next.entry ∷ lexemes.old) lexemes.new made) }
     ensures fewer { OnOk result (length lexemes.new ≤ length lexemes.old) }
     ensures within { OnOk result (TakesWithin depth (toml_text_of next.entry ∷ lexemes.old) lexemes.new) }
     ensures err { IfErr result (IsRefusalWithin depth (toml_text_of next.entry ∷ lexemes.old)) }

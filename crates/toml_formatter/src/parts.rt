@@ -1,13 +1,15 @@
 //! Documents of lexemes, and documents with a gap between them.
 ghost use Rattle.std.specs.Prelude.{◌≡◌, [], ◌∷◌, IfOk};
+ghost use Rattle.std.specs.List.{list_any};
 ghost use Rattle.prettyless.specs.Counted as counted;
 ghost use Rattle.prettyless.specs.Built.{append};
 ghost use Rattle.prettyless.specs.Lines.{line_};
 ghost use Rattle.prettyless.specs.Tree.{Nil, BreakOrFlat, TextWithLen};
 ghost use Rattle.prettyless_model.specs.Shows.{Mark, loose, shows};
-ghost use Rattle.prettyless_shapes.specs.Items.{ShowsBoth, ShowsMore};
+ghost use Rattle.prettyless_shapes.specs.Items.{ShowsBoth, ShowsMore, ShowsSame};
 ghost use Rattle.prettyless_shapes.specs.Shown.{text_items};
 ghost use Rattle.toml_lexemes.specs.Bytes.{comma};
+ghost use Rattle.toml_formatter.specs.Documents.{broken_if, is_line_feed, lexeme_tree, separated};
 ghost use Rattle.toml_formatter.specs.Gaps.{gap_items};
 
 use crate::gaps::Gap;
@@ -20,14 +22,25 @@ pub(crate) fn lexeme<'a, D: DocPlace<'a>>(
     place: &'a D,
     spelling: &'a str,
 ) -> Result<D::Doc, BuildError>
-    ensures { IfOk result (λ p. shows (D.Doc.tree p) (text_items spelling.now)) }
+    ensures ok { IfOk result (λ p. D.Doc.tree p ≡ lexeme_tree spelling.now) }
+    ensures items { IfOk result (λ p. shows (D.Doc.tree p) (text_items spelling.now)) }
 {
-    let doc = text(place, spelling)?;
-    if has_lines(spelling) {
-        broken(place, doc)
-    } else {
-        Ok(doc)
+    broken_if(place, text(place, spelling)?, has_lines(spelling))
+}
+
+/// A document, which keeps the groups around it from being flat, if it does.
+fn broken_if<'a, D: DocPlace<'a>>(
+    place: &'a D,
+    doc: D::Doc,
+    breaks: bool,
+) -> Result<D::Doc, BuildError>
+    ensures ok { IfOk result (λ p. D.Doc.tree p ≡ broken_if breaks (D.Doc.tree doc)) }
+    ensures items { IfOk result (λ p. ShowsSame (D.Doc.tree doc) (D.Doc.tree p)) }
+{
+    if breaks {
+        return broken(place, doc);
     }
+    Ok(doc)
 }
 
 /// A remark, which counts no columns: no array in front of it is broken for its sake.
@@ -42,7 +55,9 @@ pub(crate) fn remark_text<'a, D: DocPlace<'a>>(
 }
 
 /// Whether a line ends in the text.
-fn has_lines(text: &str) -> bool {
+fn has_lines(text: &str) -> bool
+    ensures { result ≡ list_any is_line_feed text.now }
+{
     text.as_bytes().iter().any(|byte| *byte == b'\n')
 }
 
@@ -73,7 +88,8 @@ pub(crate) fn apart<'a, D: DocPlace<'a>>(
     gap: Gap,
     next: D::Doc,
 ) -> Result<D::Doc, BuildError>
-    ensures { IfOk result (λ p. ShowsBoth (D.Doc.tree front) (gap_items gap) (D.Doc.tree next) (D.Doc.tree p)) }
+    ensures ok { IfOk result (λ p. D.Doc.tree p ≡ separated gap (D.Doc.tree front) (D.Doc.tree next)) }
+    ensures items { IfOk result (λ p. ShowsBoth (D.Doc.tree front) (gap_items gap) (D.Doc.tree next) (D.Doc.tree p)) }
 {
     match gap {
         Gap::Nothing => joined(place, front, next),

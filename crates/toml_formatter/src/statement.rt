@@ -3,7 +3,12 @@ ghost use Rattle.std.specs.Prelude.{◌≡◌, ◌∷◌, ◌++◌, ◌≤◌, [
 ghost use Rattle.prettyless.specs.Trees.{ref_tree};
 ghost use Rattle.toml_lexemes.specs.View.{toml_text_of, HasTomlKind};
 ghost use Rattle.toml_grammar.specs.Nesting.{max_brackets};
+ghost use Rattle.prettyless.specs.Built.{append};
+ghost use Rattle.prettyless.specs.Counted as counted;
 ghost use Rattle.toml_formatter.specs.Depths.{TakesWithin};
+ghost use Rattle.toml_formatter.specs.Documents.{Level, closed_end, new_statement, with_part};
+ghost use Rattle.toml_formatter.specs.Drafts.{ReadsFirst, ReadsOn, ReadsStatement, Stands};
+ghost use Rattle.toml_formatter.specs.declared.kind.Kind.TheVariants.{Statement};
 ghost use Rattle.toml_formatter.specs.Errors.{IsFormatMemory, IsRefusalWithin};
 ghost use Rattle.toml_formatter.specs.Kinds.{is_closing};
 ghost use Rattle.toml_statements.specs.Sound.{IsSound, LineEndsNext};
@@ -32,6 +37,9 @@ fn with_closing<'a>(
         → ShowsTaken false true line.entry (toml_text_of bracket.entry ∷ left) taken
         → ShowsTaken false true made left (taken ++ toml_text_of bracket.entry ∷ [])) }
     ensures goes_on { IfOk result (λ made. TakesMore false made) }
+    ensures stands { IfOk result (λ made. (lv : Level) → lv.kind ≡ Statement → Stands lv line.entry
+        → Stands (with_part new_statement (toml_text_of bracket.entry)
+        (append (closed_end lv).tree (counted.text (toml_text_of bracket.entry)))) made) }
     ensures err { IfErr result IsFormatMemory }
 {
     let line = line.closed(setting.arena, Kind::Statement)?;
@@ -51,6 +59,7 @@ fn begun<'a>(
     requires no_line_end { LineEndsNext (toml_text_of first ∷ lexemes.old) → ⊥ }
     ensures line { IfOk result (λ made. (more : List (List ℕ)) × (toml_text_of first.entry ∷ lexemes.old ≡ more ++ lexemes.new)
         × ShowsTaken false true made lexemes.new more) }
+    ensures read { IfOk result (λ made. ReadsFirst setting.now.style (toml_text_of first.entry ∷ lexemes.old) lexemes.new made) }
     ensures goes_on { IfOk result (λ made. MayGoOn made lexemes.new) }
     ensures fewer { OnOk result (length lexemes.new ≤ length lexemes.old) }
     ensures within { OnOk result (TakesWithin max_brackets (toml_text_of first.entry ∷ lexemes.old) lexemes.new) }
@@ -86,6 +95,8 @@ fn with_next<'a>(
         → ShowsTaken false true line.entry (toml_text_of next.entry ∷ lexemes.old) taken
         → (more : List (List ℕ)) × (toml_text_of next.entry ∷ lexemes.old ≡ more ++ lexemes.new)
         × ShowsTaken false true made lexemes.new (taken ++ more)) }
+    ensures read { IfOk result (λ made. (lv : Level) → lv.kind ≡ Statement → Stands lv line.entry
+        → ReadsOn setting.now.style false lv (toml_text_of next.entry ∷ lexemes.old) lexemes.new made) }
     ensures goes_on { IfOk result (λ made. MayGoOn made lexemes.new) }
     ensures fewer { OnOk result (length lexemes.new ≤ length lexemes.old) }
     ensures within { OnOk result (TakesWithin max_brackets (toml_text_of next.entry ∷ lexemes.old) lexemes.new) }
@@ -116,6 +127,8 @@ pub(crate) fn statement<'a>(
     requires sound { IsSound (toml_text_of first) lexemes.old }
     requires no_line_end { LineEndsNext (toml_text_of first ∷ lexemes.old) → ⊥ }
     ensures made { IfOk result (λ p. TakesStatement (toml_text_of first.entry ∷ lexemes.old) lexemes.new (ref_tree p)) }
+    ensures read { IfOk result (λ p.
+        ReadsStatement setting.now.style (toml_text_of first.entry ∷ lexemes.old) lexemes.new (ref_tree p)) }
     ensures fewer { OnOk result (length lexemes.new ≤ length lexemes.old) }
     ensures within { OnOk result (TakesWithin max_brackets (toml_text_of first.entry ∷ lexemes.old) lexemes.new) }
     ensures err { IfErr result (IsRefusalWithin max_brackets (toml_text_of first.entry ∷ lexemes.old)) }

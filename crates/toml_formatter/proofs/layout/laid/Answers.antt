@@ -1,4 +1,4 @@
-use Rattle.std.proofs.Common.{◌≡◌, ◌∙◌, Result, Ok, Err, ℕ, List}
+use Rattle.std.proofs.Common.{◌≡◌, sym, ◌∙◌, Result, Ok, Err, ℕ, List}
 use Rattle.std.specs.Prelude.{IfOk}
 use Rattle.std.proofs.lemmas.Result.{IfErr-weaker, IfOk-weaker}
 use Rattle.std.specs.String.{string_bytes}
@@ -8,7 +8,10 @@ use Rattle.prettyless.specs.Tree.{Tree}
 use Rattle.prettyless_model.specs.declared.options.RenderOptions.{RenderOptions}
 use Rattle.toml_statements.proofs.ReadItems.{shown_as_read}
 use Rattle.toml_formatter.specs.Lines.{HasStatements}
-use Rattle.toml_formatter.specs.Formats.{IsTomlLayout}
+use Rattle.toml_lexemes.specs.Lexemes.{toml_lexemes_of}
+use Rattle.toml_formatter.specs.Documents.{toml_document}
+use Rattle.toml_formatter.specs.Formats.{HasTomlOptions, IsLaidToml, IsTomlLayout, toml_options}
+use Rattle.toml_formatter.specs.declared.style.Style.{Style}
 use Rattle.toml_formatter.proofs.DepthLemmas.{memory_of}
 use Rattle.toml_formatter.specs.declared.error.FormatError.{FormatError}
 use Rattle.toml_formatter.proofs.layout.laid.Goals as goal
@@ -37,3 +40,18 @@ returns-clause-shallow c =
 
 pub returns-clause-err : goal.returns-clause-err
 returns-clause-err c = IfErr-weaker c.rendered.result _ _ (memory_of c.args.text.now) c.rendered.ensures.err
+
+-- the layout is that of the document of the text's lexemes
+laid_as : {A : Type 0} (bytes : A → List ℕ) (style : Style) (text : List ℕ) (d : Tree) (o : RenderOptions) → HasTomlOptions style o
+    → d ≡ toml_document style (toml_lexemes_of text) → (r : Result A FormatError) → IfOk r (λ p. layout o d ≡ Whole (bytes p))
+    → IfOk r (λ p. IsLaidToml style text (bytes p))
+laid_as bytes style text d o h e (Ok p) laid =
+    let same : layout (toml_options style h.0) (toml_document style (toml_lexemes_of text)) ≡ layout o d =
+    λ i. layout (sym h.1 i) (sym e i) in
+    record { ending = h.0; laid = same ∙ laid }
+laid_as bytes style text d o h e (Err x) laid = tt
+
+pub returns-clause-laid : goal.returns-clause-laid
+returns-clause-laid c =
+    laid_as string_bytes c.args.style c.args.text.now _ _ c.options.ensures c.in_ok-document.ensures.tree c.rendered.result
+    c.rendered.ensures.laid

@@ -3,14 +3,18 @@ use Rattle.std.proofs.lemmas.Result.{IfErr-weaker, IfOk-weaker}
 use Rattle.toml_grammar.specs.Nesting.{nest_too_deep}
 use Rattle.prettyless.specs.Trees.{ref_tree}
 use Rattle.toml_lexemes.specs.Bytes.{comma, line_feed}
-use Rattle.toml_lexemes.specs.View.{toml_text_of}
+use Rattle.toml_lexemes.specs.View.{toml_text_of, HasTomlKind}
 use Rattle.toml_formatter.specs.Gaps.{is_nested}
 use Rattle.toml_formatter.specs.Kinds.{is_opening}
 use Rattle.toml_formatter.specs.Errors.{IsRefusalWithin}
 use Rattle.toml_formatter.specs.declared.error.FormatError.TheVariants.{TooDeep}
 use Rattle.toml_formatter.proofs.DepthLemmas.{bracket_refused, closed_within, ended_within, list_refused, memory_within, next_within}
 use Rattle.toml_formatter.proofs.DepthLemmas.{of_memory, part_within, passed_on, plain_within, refused_after}
+use Rattle.toml_formatter.proofs.DraftLemmas.{comma_reads, line_end_reads, list_part, list_reads, plain_levels, reads_none, reads_then}
+use Rattle.toml_formatter.proofs.DraftLemmas.{remark_reads, unclosed_list_reads, value_reads}
 use Rattle.toml_formatter.proofs.Values.{part_alone}
+use Rattle.toml_formatter.specs.Documents.{document_from, Level, lexeme_tree, new_level, with_part}
+use Rattle.toml_formatter.specs.Drafts.{ReadsOn}
 use Rattle.toml_formatter.specs.Lines.{ShowsTaken, TakesLine}
 use Rattle.toml_formatter.proofs.list.+value.Goals as goal
 
@@ -27,19 +31,26 @@ inside-loop-next-preserved t c =
           ∙ sym (append_assoc before.0 made.0 c.with_next.new.lexemes),
       made.2,
     ) in
-    (line, next_within c.args.depth c.args.lexemes.now c.with_next.new.lexemes c.loop-next.invariant.1 c.in-Some.ensures.some.0 c.in_ok-line-2.ensures.within)
+    let read = λ (opening : List ℕ).
+    reads_then c.args.setting.now.style true c.args.kind (new_level c.args.kind opening) c.args.lexemes.now c.loop-next.lexemes (s ∷ left)
+    c.with_next.new.lexemes c.loop-next.line c.in_ok-line-2.line refl (c.loop-next.invariant.2 opening) c.in-Some.ensures.some.0
+    c.in_ok-line-2.ensures.read in
+    (line, next_within c.args.depth c.args.lexemes.now c.with_next.new.lexemes c.loop-next.invariant.1 c.in-Some.ensures.some.0 c.in_ok-line-2.ensures.within, read)
 
 pub inside-loop-next-init : goal.inside-loop-next-init
 inside-loop-next-init t c =
-    let line : TakesLine c.in_ok-line.line c.args.lexemes.now c.args.lexemes.now = ([], refl, c.in_ok-line.ensures c.args.lexemes.now) in
-    (line, λ n h. refl)
+    let line : TakesLine c.in_ok-line.line c.args.lexemes.now c.args.lexemes.now = ([], refl, c.in_ok-line.ensures.line c.args.lexemes.now) in
+    let read = λ (opening : List ℕ).
+    reads_none c.args.setting.now.style true (new_level c.args.kind opening) c.args.lexemes.now c.in_ok-line.line
+    (c.in_ok-line.ensures.stands c.args.kind opening) in
+    (line, λ n h. refl, read)
 
 pub value-returns-then-not-opens-clause-made : goal.value-returns-then-not-opens-clause-made
 value-returns-then-not-opens-clause-made t c = (
   [],
   refl,
   part_alone c.args.first c.text.result.now c.args.lexemes.now (ref_tree c.in_ok-lexeme.field-0) c.requires.named c.requires.part
-      (sym c.opens.ensures ∙ c.if-not-opens.true) c.text.ensures c.in_ok-lexeme.ensures,
+      (sym c.opens.ensures ∙ c.if-not-opens.true) c.text.ensures c.in_ok-lexeme.ensures.items,
 )
 
 pub value-returns-then-not-opens-clause-within : goal.value-returns-then-not-opens-clause-within
@@ -66,7 +77,7 @@ with_next-returns-in-LineEnd-clause-made t c = λ taken h.
     let e : toml_text_of c.args.next ≡ line_feed ∷ [] = ap toml_text_of c.in-LineEnd.is in (
       (line_feed ∷ []) ∷ [],
       ap (λ (s : List ℕ). s ∷ ls) e,
-      c.with_line_end.ensures ls taken (subst (λ (s : List ℕ). ShowsTaken true true c.args.line (s ∷ ls) taken) e h),
+      c.with_line_end.ensures.line ls taken (subst (λ (s : List ℕ). ShowsTaken true true c.args.line (s ∷ ls) taken) e h),
     )
 
 pub with_next-returns-in-LineEnd-clause-within : goal.with_next-returns-in-LineEnd-clause-within
@@ -176,3 +187,61 @@ inside-returns-clause-within t c = λ n h.
 pub with_next-returns-in_err-with_comma-in-Comma-clause-err : goal.with_next-returns-in_err-with_comma-in-Comma-clause-err
 with_next-returns-in_err-with_comma-in-Comma-clause-err t c =
     of_memory _ c.from_residual.result (memory_within c.args.depth (toml_text_of c.args.next ∷ c.args.lexemes.now)) c.from_residual.ensures.1
+
+-- ---- which document is read
+
+pub value-returns-then-not-opens-clause-read : goal.value-returns-then-not-opens-clause-read
+value-returns-then-not-opens-clause-read t c = λ d lv lvs kinds.
+    let style = c.args.setting.now.style in
+    let s = toml_text_of c.args.first in
+    let tree : lexeme_tree s ≡ ref_tree c.in_ok-lexeme.field-0 = sym (c.in_ok-lexeme.ensures.ok ∙ ap lexeme_tree c.text.ensures) in
+    ap (λ (ls : List Level). document_from style (record d { levels = ls }) c.args.lexemes.now)
+    (plain_levels style c.args.first c.requires.named c.requires.part (sym c.opens.ensures ∙ c.if-not-opens.true) c.args.is_first lv lvs
+    ∙ (λ i. with_part lv s (tree i) ∷ lvs))
+
+pub value-returns-in-Some-clause-read : goal.value-returns-in-Some-clause-read
+value-returns-in-Some-clause-read t c =
+    let line = c.in_ok-line.ensures in
+    IfOk-weaker c.closed.result _ _
+    (λ p trees. list_reads c.args.setting.now.style c.args.first (toml_text_of c.in-Some.close) (sym c.opens.ensures ∙ c.if-not-opens.false)
+    c.args.around c.kind_of-kind.result c.args.is_first c.kind_of-kind.ensures.kind c.args.lexemes.now c.inside.new.lexemes c.next.new.self
+    c.in_ok-line.line (ref_tree p) (line.read (toml_text_of c.args.first)) line.closing c.in-Some.ensures.next trees)
+    c.closed.ensures.tree
+
+pub value-returns-in-None-clause-read : goal.value-returns-in-None-clause-read
+value-returns-in-None-clause-read t c =
+    let line = c.in_ok-line.ensures in
+    let none = c.in-None.ensures.next in
+    IfOk-weaker c.unclosed.result _ _
+    (λ p trees. unclosed_list_reads c.args.setting.now.style c.args.first (sym c.opens.ensures ∙ c.if-not-opens.false)
+    c.args.around c.kind_of-kind.result c.args.is_first c.kind_of-kind.ensures.kind c.args.lexemes.now c.inside.new.lexemes c.next.new.self
+    c.in_ok-line.line (ref_tree p) (line.read (toml_text_of c.args.first)) none.0 none.1 trees)
+    c.unclosed.ensures.tree
+
+pub inside-returns-clause-read : goal.inside-returns-clause-read
+inside-returns-clause-read t c = λ opening.
+    subst (λ (ss : List (List ℕ)). ReadsOn c.args.setting.now.style true (new_level c.args.kind opening) c.args.lexemes.now ss c.loop-next.line)
+    (sym c.in_default.ensures.none) (c.loop-next.invariant.2 opening)
+
+pub with_next-returns-in-LineEnd-clause-read : goal.with_next-returns-in-LineEnd-clause-read
+with_next-returns-in-LineEnd-clause-read t c = λ lv kinds h.
+    line_end_reads c.args.setting.now.style lv (toml_text_of c.args.next) c.args.lexemes.now c.with_line_end.result (ap toml_text_of c.in-LineEnd.is)
+    (c.with_line_end.ensures.stands lv h)
+
+pub with_next-returns-in_ok-with_comma-in-Comma-clause-read : goal.with_next-returns-in_ok-with_comma-in-Comma-clause-read
+with_next-returns-in_ok-with_comma-in-Comma-clause-read t c = λ lv kinds h.
+    comma_reads c.args.setting.now.style true lv (toml_text_of c.args.next) c.args.lexemes.now c.in_ok-with_comma-in-Comma.field-0
+    (ap toml_text_of c.in-Comma.is) (c.in_ok-with_comma-in-Comma.ensures.stands lv h)
+
+pub with_next-returns-in_ok-with_remark-in-Remark-clause-read : goal.with_next-returns-in_ok-with_remark-in-Remark-clause-read
+with_next-returns-in_ok-with_remark-in-Remark-clause-read t c = λ lv kinds h.
+    remark_reads c.args.setting.now.style true lv (toml_text_of c.args.next) c.in-Remark.remark.now c.args.lexemes.now
+    c.in_ok-with_remark-in-Remark.field-0 (ap toml_text_of c.in-Remark.is) (subst HasTomlKind c.in-Remark.is c.requires.named)
+    (c.in_ok-with_remark-in-Remark.ensures.stands lv kinds h)
+
+pub with_next-returns-in_ok-with_value-in_default-clause-read : goal.with_next-returns-in_ok-with_value-in_default-clause-read
+with_next-returns-in_ok-with_value-in_default-clause-read t c = λ lv kinds h.
+    value_reads c.args.setting.now.style true c.args.kind lv c.args.next c.args.lexemes.now c.value.new.lexemes
+    (ref_tree c.in_ok-value-in_default.value) c.in_ok-with_value-in_default.field-0 c.requires.named
+    (list_part c.args.next c.requires.part c.in_default.not-LineEnd c.in_default.not-Comma c.in_default.not-Remark) kinds
+    c.in_ok-value-in_default.ensures.read (c.in_ok-with_value-in_default.ensures.stands lv kinds h)

@@ -1,16 +1,24 @@
 use Rattle.std.proofs.Common.{◌≡◌, refl, sym, ◌∙◌, ap, subst, true, false, ◌∷◌, [], List, ℕ, inl, inr}
+use Rattle.prettyless.specs.Counted.{text}
 use Rattle.prettyless.specs.Trees.{ref_tree}
 use Rattle.toml_lexemes.specs.Bytes.{comma}
+use Rattle.toml_statements.specs.Statements.{trimmed}
 use Rattle.toml_lexemes.specs.View.{toml_text_of, HasTomlKind}
 use Rattle.toml_lexemes.specs.declared.lexeme.Lexeme.{Lexeme}
 use Rattle.toml_lexemes.specs.declared.lexeme.Lexeme.TheVariants as lexeme
 use Rattle.toml_grammar.specs.Nesting.{max_brackets}
-use Rattle.toml_formatter.specs.Kinds.{is_closing, is_opening, last_after}
+use Rattle.toml_formatter.specs.Kinds.{is_closing, is_opening, last_after, last_after_sort}
+use Rattle.toml_grammar.proofs.Allowed.{sort_remark}
 use Rattle.toml_formatter.specs.Gaps.{is_last_remark}
 use Rattle.toml_statements.specs.Sound.{IsSound}
+use Rattle.toml_formatter.specs.Documents.{document_from, new_statement, with_part}
+use Rattle.toml_formatter.specs.Drafts.{Stands}
+use Rattle.toml_formatter.specs.declared.kind.Last.TheVariants as last
 use Rattle.toml_formatter.specs.Lines.{ShowsTaken, MayGoOn, begun}
 use Rattle.toml_formatter.specs.declared.line.Line.{Line}
 use Rattle.toml_formatter.proofs.DepthLemmas.{closing_within, plain_within}
+use Rattle.toml_formatter.proofs.DraftLemmas.{begun_stands, closing_first, closing_last, comma_first, first_reads, part_last}
+use Rattle.toml_formatter.proofs.DraftLemmas.{remark_first_reads}
 use Rattle.toml_formatter.proofs.LineLemmas.{trimmed_shows}
 use Rattle.toml_formatter.proofs.StatementLemmas.{bracket_begins, comma_begins, part_of, remark_begins, value_begins}
 use Rattle.toml_formatter.proofs.Values.{closing_shows, part_whole, remark_whole, ShowsClosing}
@@ -115,3 +123,65 @@ returns-in_ok-value-in_default-clause-goes_on c =
     no_remark (lexeme.Remark s) = refl
     no_remark (lexeme.String s) = refl
     no_remark (lexeme.Word s) = refl
+
+-- ---- which document is read
+
+pub returns-then-closes-clause-read : goal.returns-then-closes-clause-read
+returns-then-closes-clause-read c =
+    let s = toml_text_of c.args.first in
+    let closing : is_closing c.args.first ≡ true = sym c.closes.ensures ∙ c.if-closes.true in
+    record {
+      level = with_part new_statement s (text s);
+      kind = refl;
+      stands = subst (λ (l : Line). Stands (with_part new_statement s (text s)) l) (sym c.begun.ensures)
+          (begun_stands c.in_ok-bracket.bracket last.Close s (text s) (c.in_ok-bracket.ensures.ok ∙ ap text c.text.ensures)
+          (closing_last c.args.first closing));
+      same = λ d. closing_first c.args.setting.now.style c.args.first closing d c.args.lexemes.now;
+    }
+
+pub returns-in_ok-text-in-Comma-clause-read : goal.returns-in_ok-text-in-Comma-clause-read
+returns-in_ok-text-in-Comma-clause-read c =
+    let style = c.args.setting.now.style in
+    let ls = c.args.lexemes.now in
+    let e : toml_text_of c.args.first ≡ comma ∷ [] = ap toml_text_of c.in-Comma.is in
+    record {
+      level = with_part new_statement (comma ∷ []) (text (comma ∷ []));
+      kind = refl;
+      stands = subst (λ (l : Line). Stands (with_part new_statement (comma ∷ []) (text (comma ∷ []))) l) (sym c.begun-in-Comma.ensures)
+          (begun_stands c.in_ok-text-in-Comma.field-0 last.Comma (comma ∷ []) (text (comma ∷ [])) c.in_ok-text-in-Comma.ensures.ok refl);
+      same = λ d. ap (λ (s : List ℕ). document_from style (record d { levels = [] }) (s ∷ ls)) e ∙ comma_first style d ls;
+    }
+
+pub returns-in_ok-text-in-Remark-clause-read : goal.returns-in_ok-text-in-Remark-clause-read
+returns-in_ok-text-in-Remark-clause-read c =
+    let style = c.args.setting.now.style in
+    let ls = c.args.lexemes.now in
+    let r = c.in-Remark.remark.now in
+    let e : toml_text_of c.args.first ≡ r = ap toml_text_of c.in-Remark.is in
+    let named = subst HasTomlKind c.in-Remark.is c.requires.named in
+    let d = c.in_ok-text-in-Remark in
+    record {
+      level = with_part new_statement r (text (trimmed r));
+      kind = refl;
+      stands = subst (λ (l : Line). Stands (with_part new_statement r (text (trimmed r))) l) (sym c.begun-in-Remark.ensures)
+          (begun_stands d.field-0 last.Remark r (text (trimmed r)) (d.ensures.ok ∙ ap text c.trimmed.ensures)
+          (ap last_after_sort (sym (sort_remark r named))));
+      same = λ d. ap (λ (s : List ℕ). document_from style (record d { levels = [] }) (s ∷ ls)) e ∙ remark_first_reads style d r ls named;
+    }
+
+pub returns-in_ok-value-in_default-clause-read : goal.returns-in_ok-value-in_default-clause-read
+returns-in_ok-value-in_default-clause-read c =
+    let style = c.args.setting.now.style in
+    let x = c.args.first in
+    let s = toml_text_of x in
+    let v = c.in_ok-value-in_default in
+    let tree = ref_tree v.value in
+    let part = part_of x c.args.lexemes.now c.requires.no_line_end (sym c.closes.ensures ∙ c.if-closes.false) c.in_default.not-Comma
+    c.in_default.not-Remark in
+    record {
+      level = with_part new_statement s tree;
+      kind = refl;
+      stands = subst (λ (l : Line). Stands (with_part new_statement s tree) l) (sym (c.begun-in_default.ensures ∙ ap (begun v.value) c.last_of.ensures))
+          (begun_stands v.value (last_after x) s tree refl (part_last x c.requires.named part));
+      same = λ d. first_reads style x c.requires.named part d c.args.lexemes.now ∙ v.ensures.read d new_statement [] refl;
+    }

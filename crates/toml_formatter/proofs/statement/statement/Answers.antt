@@ -1,9 +1,11 @@
-use Rattle.std.proofs.Common.{sym, ◌∙◌, ap, subst, true, false, ◌∷◌, ◌++◌, List, ℕ, inl, inr, append_assoc, append-nil, arith, length}
+use Rattle.std.proofs.Common.{refl, sym, ◌∙◌, ap, subst, true, false, ◌∷◌, ◌++◌, List, ℕ, inl, inr, append_assoc, append-nil, arith, length}
 use Rattle.std.proofs.Common.{length-append}
+use Rattle.prettyless.specs.Trees.{ref_tree}
 use Rattle.toml_formatter.specs.Lines.{ShowsTaken}
 use Rattle.toml_lexemes.specs.View.{toml_text_of}
 use Rattle.toml_grammar.specs.Nesting.{max_brackets, nest_too_deep}
 use Rattle.toml_formatter.proofs.DepthLemmas.{line_end_within, memory_within, next_within, of_memory, passed_on, refused_after}
+use Rattle.toml_formatter.proofs.DraftLemmas.{first_then, statement_reads}
 use Rattle.toml_formatter.proofs.LineLemmas.{IsSettled}
 use Rattle.toml_formatter.proofs.StatementLemmas.{line_is_statement, may_settle}
 use Rattle.toml_formatter.proofs.statement.statement.Goals as goal
@@ -19,6 +21,8 @@ loop-next-preserved c =
       made.2,
       c.in_ok-line-2.ensures.goes_on,
       next_within max_brackets (toml_text_of c.args.first ∷ c.args.lexemes.now) c.with_next.new.lexemes before.4 e c.in_ok-line-2.ensures.within,
+      first_then c.args.setting.now.style (toml_text_of c.args.first ∷ c.args.lexemes.now) c.loop-next.lexemes _ c.with_next.new.lexemes
+          c.loop-next.line c.in_ok-line-2.line before.5 e c.in_ok-line-2.ensures.read,
     )
 
 pub returns-clause-made : goal.returns-clause-made
@@ -65,3 +69,9 @@ pub returns-in_err-settled-clause-err : goal.returns-in_err-settled-clause-err
 returns-in_err-settled-clause-err c =
     of_memory _ c.from_residual-in_err-settled.result (memory_within max_brackets (toml_text_of c.args.first ∷ c.args.lexemes.now))
     c.from_residual-in_err-settled.ensures.1
+
+pub returns-clause-read : goal.returns-clause-read
+returns-clause-read c =
+    let settled = c.in_ok-settled.field-0 in
+    statement_reads c.args.setting.now.style (toml_text_of c.args.first ∷ c.args.lexemes.now) c.loop-next.lexemes c.next_on_line.new.self
+    c.loop-next.line (ref_tree settled.doc) c.loop-next.invariant.5 c.in_default.ensures.none settled c.in_ok-settled.ensures.end refl

@@ -1,5 +1,6 @@
 use Rattle.std.proofs.Common.{◌≡◌, refl, sym, ◌∙◌, ap, subst, true, false, ◌∷◌, [], List, ℕ, inl, inr}
 use Rattle.std.proofs.lemmas.Result.{IfOk-weaker}
+use Rattle.prettyless.specs.Trees.{ref_tree}
 use Rattle.toml_lexemes.specs.Bytes.{comma}
 use Rattle.toml_lexemes.specs.View.{toml_text_of, HasTomlKind}
 use Rattle.toml_statements.specs.Sound.{IsSound}
@@ -7,7 +8,9 @@ use Rattle.toml_formatter.specs.Lines.{ShowsTaken}
 use Rattle.toml_grammar.specs.Nesting.{max_brackets}
 use Rattle.toml_formatter.specs.Gaps.{is_last_remark}
 use Rattle.toml_formatter.specs.Kinds.{is_closing, is_opening}
+use Rattle.toml_formatter.specs.declared.kind.Kind.TheVariants.{Statement}
 use Rattle.toml_formatter.proofs.DepthLemmas.{closing_within, plain_within}
+use Rattle.toml_formatter.proofs.DraftLemmas.{closing_reads, comma_reads, remark_reads, value_reads}
 use Rattle.toml_formatter.proofs.StatementLemmas.{part_of}
 use Rattle.toml_formatter.proofs.Values.{remark_whole}
 use Rattle.toml_formatter.proofs.statement.with_next.Goals as goal
@@ -79,3 +82,31 @@ returns-in_ok-with_value-in_default-clause-line c = λ taken h.
 
 pub returns-in_ok-with_value-in_default-clause-goes_on : goal.returns-in_ok-with_value-in_default-clause-goes_on
 returns-in_ok-with_value-in_default-clause-goes_on c = inl c.in_ok-with_value-in_default.ensures.goes_on
+
+-- ---- which document is read
+
+pub returns-then-closes-clause-read : goal.returns-then-closes-clause-read
+returns-then-closes-clause-read c =
+    let closing = sym c.closes.ensures ∙ c.if-closes.true in
+    IfOk-weaker c.with_closing.result _ _
+    (λ made f lv kinds h. closing_reads c.args.setting.now.style lv c.args.next c.args.lexemes.now made closing kinds (f lv kinds h))
+    c.with_closing.ensures.stands
+
+pub returns-in_ok-with_comma-in-Comma-clause-read : goal.returns-in_ok-with_comma-in-Comma-clause-read
+returns-in_ok-with_comma-in-Comma-clause-read c = λ lv kinds h.
+    comma_reads c.args.setting.now.style false lv (toml_text_of c.args.next) c.args.lexemes.now c.in_ok-with_comma-in-Comma.field-0
+    (ap toml_text_of c.in-Comma.is) (c.in_ok-with_comma-in-Comma.ensures.stands lv h)
+
+pub returns-in_ok-with_remark-in-Remark-clause-read : goal.returns-in_ok-with_remark-in-Remark-clause-read
+returns-in_ok-with_remark-in-Remark-clause-read c = λ lv kinds h.
+    remark_reads c.args.setting.now.style false lv (toml_text_of c.args.next) c.in-Remark.remark.now c.args.lexemes.now
+    c.in_ok-with_remark-in-Remark.field-0 (ap toml_text_of c.in-Remark.is) (subst HasTomlKind c.in-Remark.is c.requires.named)
+    (c.in_ok-with_remark-in-Remark.ensures.stands lv kinds h)
+
+pub returns-in_ok-with_value-in_default-clause-read : goal.returns-in_ok-with_value-in_default-clause-read
+returns-in_ok-with_value-in_default-clause-read c = λ lv kinds h.
+    let part = part_of c.args.next c.args.lexemes.now c.requires.no_line_end (sym c.closes.ensures ∙ c.if-closes.false)
+    c.in_default.not-Comma c.in_default.not-Remark in
+    value_reads c.args.setting.now.style false Statement lv c.args.next c.args.lexemes.now c.value.new.lexemes
+    (ref_tree c.in_ok-value-in_default.value) c.in_ok-with_value-in_default.field-0 c.requires.named part kinds
+    c.in_ok-value-in_default.ensures.read (c.in_ok-with_value-in_default.ensures.stands lv kinds h)

@@ -1,8 +1,12 @@
-use Rattle.std.proofs.Common.{sym, subst, refl, true, false, [], ◌∷◌, ◌++◌}
+use Rattle.std.proofs.Common.{◌≡◌, sym, ◌∙◌, ap, subst, refl, true, false, [], ◌∷◌, ◌++◌, List, ℕ}
+use Rattle.prettyless.specs.Tree.{TextWithLen}
 use Rattle.prettyless.specs.Trees.{ref_tree}
 use Rattle.toml_formatter.specs.Gaps.{is_nested}
+use Rattle.toml_formatter.specs.Documents.{with_remark, remark_tree}
+use Rattle.toml_formatter.specs.Drafts.{Stands}
 use Rattle.toml_formatter.specs.Lines.{ShowsTaken}
 use Rattle.toml_formatter.specs.declared.line.Line.{Line}
+use Rattle.toml_formatter.proofs.DraftLemmas.{first_remarks, remark_stands}
 use Rattle.toml_formatter.proofs.LineLemmas.{remark_first, remark_next, remarked_nested, trimmed_shows}
 use Rattle.toml_formatter.proofs.line.Line.with_remark.Goals as goal
 
@@ -15,7 +19,7 @@ returns-then-self-clause-line c = λ left taken h.
     subst (λ (l : Line). ShowsTaken n true l left (taken ++ r ∷ [])) (sym c.with_remarks.ensures)
     (remark_next n c.args.self.last gap.result r c.requires.remark c.requires.whole c.args.self false false c.in_ok-remarks.remarks x x
     c.if-self.true refl (trimmed_shows x r c.trimmed.result.now c.requires.remark c.trimmed.ensures c.in_ok-remark.ensures.items)
-    c.in_ok-remarks.ensures
+    c.in_ok-remarks.ensures.items
     (gap.ensures.others c.if-self.true) (remarked_nested n c.args.self c.requires.goes_on c.if-self.true) left taken h)
 
 pub returns-clause-line : goal.returns-clause-line
@@ -28,5 +32,25 @@ returns-clause-line c = λ left taken h.
     (remark_first n c.args.self.last gap.result r c.requires.remark c.requires.whole c.args.self false false c.in_ok-remarks-2.remarks
     (ref_tree c.in_ok-nil.field-0) x
     c.if-self.false refl c.in_ok-nil.ensures.items
-    (trimmed_shows x r c.trimmed.result.now c.requires.remark c.trimmed.ensures c.in_ok-remark.ensures.items) c.in_ok-remarks-2.ensures
+    (trimmed_shows x r c.trimmed.result.now c.requires.remark c.trimmed.ensures c.in_ok-remark.ensures.items) c.in_ok-remarks-2.ensures.items
     gap.ensures.enough (λ e. gap.ensures.stays e c.if-self.false) left taken h)
+
+pub returns-then-self-clause-stands : goal.returns-then-self-clause-stands
+returns-then-self-clause-stands c = λ lv kinds h.
+    let r = c.args.remark.now in
+    let x = ref_tree c.in_ok-remark.remark in
+    let text : x ≡ remark_tree r = c.in_ok-remark.ensures.ok ∙ ap (λ (s : List ℕ). TextWithLen 0 s) c.trimmed.ensures in
+    subst (λ (l : Line). Stands (with_remark lv r) l) (sym c.with_remarks.ensures)
+    (remark_stands lv c.args.self c.args.kind r c.before_remark-gap.result (ref_tree c.args.self.remarks) x c.in_ok-remarks.remarks kinds h
+    c.before_remark-gap.ensures.gap (h.remarks c.if-self.true) text c.in_ok-remarks.ensures.ok)
+
+pub returns-clause-stands : goal.returns-clause-stands
+returns-clause-stands c = λ lv kinds h.
+    let r = c.args.remark.now in
+    let x = ref_tree c.in_ok-remark.remark in
+    let nothing = ref_tree c.in_ok-nil.field-0 in
+    let text : x ≡ remark_tree r = c.in_ok-remark.ensures.ok ∙ ap (λ (s : List ℕ). TextWithLen 0 s) c.trimmed.ensures in
+    subst (λ (l : Line). Stands (with_remark lv r) l) (sym c.with_remarks-2.ensures)
+    (remark_stands lv c.args.self c.args.kind r c.before_remark-gap.result nothing x c.in_ok-remarks-2.remarks kinds h
+    c.before_remark-gap.ensures.gap (first_remarks lv c.args.self nothing h c.if-self.false c.in_ok-nil.ensures.ok) text
+    c.in_ok-remarks-2.ensures.ok)

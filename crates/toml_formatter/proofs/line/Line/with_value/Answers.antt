@@ -1,6 +1,8 @@
-use Rattle.std.proofs.Common.{true, false, ◌∷◌}
+use Rattle.std.proofs.Common.{◌∙◌, true, false, ◌∷◌}
+use Rattle.prettyless.specs.Trees.{ref_tree}
 use Rattle.toml_lexemes.specs.View.{toml_text_of}
 use Rattle.toml_formatter.specs.Gaps.{is_nested}
+use Rattle.toml_formatter.proofs.DraftLemmas.{part_stands, settled_same}
 use Rattle.toml_formatter.proofs.LineLemmas.{goes_on_last, IsSettled, value_taken}
 use Rattle.toml_formatter.proofs.line.Line.with_value.Goals as goal
 
@@ -11,5 +13,12 @@ returns-clause-line c = λ left old taken more h v.
     let after = c.in_ok-line.ensures in
     let settled : IsSettled c.in_ok-line.line = record { no_comma = after.no_comma; no_remarks = after.no_remarks } in
     rw c.last_of.ensures
-    (value_taken false false c.in_ok-doc.doc settled c.in_ok-doc.ensures c.before-gap.ensures c.requires.whole
+    (value_taken false false c.in_ok-doc.doc settled c.in_ok-doc.ensures.items c.before-gap.ensures.suits c.requires.whole
     (after.line n true (s ∷ old) taken (λ e k. goes_on_last n c.args.self c.requires.goes_on e) h) v)
+
+pub returns-clause-stands : goal.returns-clause-stands
+returns-clause-stands c = λ lv kinds h.
+    let after = c.in_ok-line.ensures in
+    part_stands lv c.in_ok-line.line c.args.kind c.args.first (ref_tree c.args.value) c.in_ok-doc.doc c.before-gap.result c.last_of.result
+    c.requires.named c.requires.part kinds (after.end ∙ settled_same lv c.args.self h) after.no_comma after.no_remarks
+    (after.blank ∙ h.blank) c.before-gap.ensures.gap c.in_ok-doc.ensures.ok c.last_of.ensures
