@@ -8,6 +8,7 @@ pub mod comparing;
 pub mod difference;
 pub mod ending;
 pub mod files;
+pub mod folder;
 pub mod formatter;
 pub mod head;
 mod hunks;

@@ -45,9 +45,9 @@ fn files<'w>(alloc: Global) -> Arg<'w>
     ensures rule { rule_of result ≡ files }
     ensures local { result.global ≡ false }
 {
-    Arg::new(alloc, "FILE")
-        .action(ArgAction::Append)
-        .help("Files to lay out, `-` for standard input [default: -]")
+    Arg::new(alloc, "FILE").action(ArgAction::Append).help(
+        "Files and folders to lay out, `-` for standard input [default: -]",
+    )
 }
 
 /// A program of this name, with no option yet. Its `version` and what it is `about` are for people.
