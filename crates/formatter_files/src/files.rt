@@ -12,6 +12,7 @@ use crate::folder::push_paths;
 use crate::formatter::{Formatter, LayoutError, Verdict};
 use crate::hunks::hunks;
 use crate::rewriting::Rewriting;
+use crate::stamp::Stamp;
 use std::fs::{Files, OpenFile};
 use std::io::{ErrorKind, Read, Write};
 use std::{fs, io};
@@ -50,8 +51,8 @@ impl From<io::Error> for Failure {
 struct SourceText<'s> {
     name: &'s str,
     bytes: &'s [u8],
-    /// Whether its layout is to replace it.
-    replaced: bool,
+    /// What its file showed when it was read. Of standard input, nothing.
+    read: Option<Stamp>,
 }
 
 /// How a text compares with its layout.
@@ -160,7 +161,7 @@ fn rewrite<R: AllocGlobal + Files + Eprint, F: Formatter>(
     formatter: &F,
     source: SourceText<'_>,
 ) -> io::Result<Ending> {
-    let mut layout = Rewriting::new(rt, source.name, source.bytes);
+    let mut layout = Rewriting::new(rt, source.name, source.read, source.bytes);
     match formatter.write_layout(rt, source.name, source.bytes, &mut layout) {
         Ok(Verdict::LaidOut) => {
             layout.finish()?;
@@ -187,7 +188,8 @@ fn lay_out<R: AllocGlobal + Files + Eprint + Print, F: Formatter>(
     ensures { (IsTrue task.now.check ⊎ IsTrue task.now.diff) → result ≡ Ok Ending.Good
         → F.IsLayout formatter.now source.entry.bytes.now source.entry.bytes.now }
 {
-    match Action::of(task.check || task.diff, source.replaced) {
+    let replaces = task.write && source.read.is_some();
+    match Action::of(task.check || task.diff, replaces) {
         Action::Compare => check(rt, formatter, task, source),
         Action::Replace => Ok(rewrite(rt, formatter, source)?),
         Action::Print => print(rt, formatter, source),
@@ -217,24 +219,37 @@ fn check_name(name: &str) -> io::Result<()> {
     Err(io::Error::new(ErrorKind::InvalidFilename, error))
 }
 
-/// All of a file, in memory for as much as it is said to have, and one byte more to see its end.
-fn read_file<R: AllocGlobal + Files>(rt: &R, name: &str) -> io::Result<Vec<u8>> {
-    check_name(name)?;
-    let mut file = fs::open(rt, name)?;
-    let len = file.metadata().map_or(0, |data| data.len());
-    let room = usize::try_from(len).unwrap_or(usize::MAX).saturating_add(1);
-    let mut bytes = Vec::with_capacity(rt.alloc(), room)?;
-    file.read_to_end(&mut bytes)?;
-    Ok(bytes)
+/// A text that was read.
+#[derive(Drop)]
+struct ReadText {
+    bytes: Vec<u8>,
+    /// What its file showed before. Of standard input, nothing.
+    read: Option<Stamp>,
 }
 
-fn read<R: AllocGlobal + Files + Input>(rt: &R, file: &str) -> io::Result<Vec<u8>> {
+/// All of a file, in memory for as much as it is said to have, and one byte more to see its end.
+fn read_file<R: AllocGlobal + Files>(rt: &R, name: &str) -> io::Result<ReadText> {
+    check_name(name)?;
+    let mut file = fs::open(rt, name)?;
+    let stamp = Stamp::of(&file.metadata()?);
+    let room = usize::try_from(stamp.len)
+        .unwrap_or(usize::MAX)
+        .saturating_add(1);
+    let mut bytes = Vec::with_capacity(rt.alloc(), room)?;
+    file.read_to_end(&mut bytes)?;
+    Ok(ReadText {
+        bytes,
+        read: Some(stamp),
+    })
+}
+
+fn read<R: AllocGlobal + Files + Input>(rt: &R, file: &str) -> io::Result<ReadText> {
     if !is_input(file) {
         return read_file(rt, file);
     }
     let mut bytes = Vec::new(rt.alloc());
     rt.reader().read_to_end(&mut bytes)?;
-    Ok(bytes)
+    Ok(ReadText { bytes, read: None })
 }
 
 fn lay_out_file<R: AllocGlobal + Files + Input + Eprint + Print, F: Formatter>(
@@ -243,11 +258,11 @@ fn lay_out_file<R: AllocGlobal + Files + Input + Eprint + Print, F: Formatter>(
     task: &Task<'_>,
     file: &str,
 ) -> Result<Ending, Failure> {
-    let bytes = read(rt, file)?;
+    let ReadText { bytes, read } = read(rt, file)?;
     let source = SourceText {
         name: name_of(file),
         bytes: &bytes,
-        replaced: task.write && !is_input(file),
+        read,
     };
     lay_out(rt, formatter, task, source)
 }

@@ -16,4 +16,5 @@ pub mod message;
 pub mod replace;
 mod rewriting;
 mod search;
+pub mod stamp;
 pub mod words;
