@@ -126,7 +126,9 @@ def environment_of(case, tools, log, failing):
     if case["fails"]:
         number = 0 if case["fails"][0] == "nothing" else getattr(errno, case["fails"][0])
         environment.update(FAIL_AT=str(failing), FAIL_WITH=str(number))
-    if case["takes"] or case["fails"] or case["calls"]:
+    if case["changes"]:
+        environment["FAIL_CHANGED"], environment["FAIL_BEFORE"] = case["changes"]
+    if case["takes"] or case["fails"] or case["calls"] or case["changes"]:
         environment.update(LD_PRELOAD=f"{tools}/fail.so", FAIL_LOG=log)
     return environment
 

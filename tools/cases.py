@@ -111,7 +111,7 @@ def failure_of(written):
 
 # How what stands behind each kind of field is read.
 READERS = {"words": words_of, "failure": failure_of}
-READERS.update({it: names_of for it in ("calls", "fails", "passed over", "rows")})
+READERS.update({it: names_of for it in ("calls", "changes", "fails", "passed over", "rows")})
 READERS.update({it: text_of for it in ("stdin", "stdout", "stderr", "file", "pipe", "new")})
 READERS.update({it: int for it in ("status", "takes", "room")})
 READERS.update({it: bytes_of for it in ("link", "hard link")})

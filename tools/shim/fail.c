@@ -1,7 +1,8 @@
 /* Preloaded, it writes down the calls by which a program reads, writes and replaces files, and has one of them fail.
  *
  * FAIL_LOG is a file that gets a line for each call. FAIL_AT is the number of the call that fails, from 1 on, and FAIL_WITH
- * its errno, of which 0 has a write take nothing. FAIL_TAKES is how many bytes a read or a write takes at most.
+ * its errno, of which 0 has a write take nothing. FAIL_TAKES is how many bytes a read or a write takes at most. FAIL_BEFORE is
+ * a call before which a line feed is appended to the file FAIL_CHANGED, once.
  */
 #define _GNU_SOURCE
 #include <dlfcn.h>
@@ -16,6 +17,7 @@
 
 static unsigned long seen, failing, takes;
 static int error, log_file = -1;
+static const char *before, *changed;
 static int (*next_open)(const char *, int, ...);
 static ssize_t (*next_read)(int, void *, size_t);
 static ssize_t (*next_write)(int, const void *, size_t);
@@ -32,12 +34,21 @@ __attribute__((constructor)) static void begin(void) {
   failing = number("FAIL_AT", 0);
   error = (int)number("FAIL_WITH", EIO);
   takes = number("FAIL_TAKES", ULONG_MAX);
+  before = getenv("FAIL_BEFORE");
+  changed = getenv("FAIL_CHANGED");
   const char *path = getenv("FAIL_LOG");
   if (path) log_file = next_open(path, O_WRONLY | O_APPEND | O_CLOEXEC);
 }
 
+/* Changes the file as another program would. */
+static void change(void) {
+  int file = next_open(changed, O_WRONLY | O_APPEND | O_CLOEXEC);
+  if (file >= 0) (void)!next_write(file, "\n", 1), close(file);
+}
+
 /* Whether this call, which is written down, is to fail. */
 static int fails(const char *call) {
+  if (before && !strcmp(call, before)) before = 0, change();
   if (log_file >= 0) {
     (void)!next_write(log_file, call, strlen(call));
     (void)!next_write(log_file, "\n", 1);

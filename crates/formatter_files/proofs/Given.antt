@@ -26,7 +26,7 @@ use Rattle.clap.specs.declared.builder.value_parser.ValueParser.{ValueParser}
 use Rattle.clap.specs.declared.builder.value_parser.ValueParser.TheVariants.{Unsigned}
 use Rattle.clap.specs.declared.parser.matches.ArgMatches.{ArgMatches}
 use Rattle.clap.specs.declared.parser.matches.MatchedArg.{MatchedArg}
-use Rattle.formatter_files.specs.Words.{IsNumberUpTo, most_32, most_64, number_rule}
+use Rattle.formatter_files.specs.Words.{IsNumberUpTo, most_32, most_64, number_rule, with_letter}
 
 is_not : (b : Bool) → not b ≡ true → b ≡ false
 is_not true e = cc
@@ -53,7 +53,7 @@ is_other r = not (bytes_eq r.id (codes "width")) && not (bytes_eq r.id (codes "i
 -- A program whose first options are those that take a number.
 pub record TakesNumbers (app : App) : Type 0 where
   pub others : List Rule
-  pub rules : app.top.rules ≡ number_rule (codes "width") most_64 ∷ number_rule (codes "indent") most_32 ∷ others
+  pub rules : app.top.rules ≡ number_rule (codes "width") most_64 ∷ with_letter 105 (number_rule (codes "indent") most_32) ∷ others
   pub differ : list_all is_other others ≡ true
   pub plain : app.top.is_plain ≡ true
   pub simple : list_all (λ (r : Rule). r.is_simple) app.top.rules ≡ true
@@ -64,7 +64,7 @@ IsOnly rules id most = (k : ℕ) (r : Rule) → k < length rules → bytes_eq (s
     → ((slice_index_or rules k r).parser ≡ Some (Unsigned 0 most)) × ((slice_index_or rules k r).ignore_case ≡ false)
 
 abbrev with_numbers : List Rule → List Rule
-with_numbers others = number_rule (codes "width") most_64 ∷ number_rule (codes "indent") most_32 ∷ others
+with_numbers others = number_rule (codes "width") most_64 ∷ with_letter 105 (number_rule (codes "indent") most_32) ∷ others
 
 is_none : (b : Bool) → not b ≡ true → b ≡ true → ⊥
 is_none true e h = cc

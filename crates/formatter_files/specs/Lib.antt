@@ -3,6 +3,7 @@ pub mod Arguments
 pub mod Comparing
 pub mod Differences
 pub mod Endings
+pub mod Folders
 pub mod Heads
 pub mod Layouts
 pub mod Names

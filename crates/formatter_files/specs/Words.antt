@@ -17,6 +17,10 @@ flag name = record (new_rule name) { long = Some name; action = Some SetTrue }
 abbrev pub number_rule : Text → ℕ → Rule
 number_rule name most = record (new_rule name) { long = Some name; value_names = 1; parser = Some (Unsigned 0 most) }
 
+-- the option under a letter too
+abbrev pub with_letter : ℕ → Rule → Rule
+with_letter letter rule = record rule { short = Some letter }
+
 -- the greatest numbers of 64 bits, and of 32
 abbrev pub most_64 : ℕ
 most_64 = 18446744073709551615
@@ -35,13 +39,16 @@ program name = record {
   subs = [];
 }
 
--- with the options that take numbers
+-- with the options that take numbers; 105 is `i`
 abbrev pub with_numbers : App → App
-with_numbers a = with_rule (with_rule a (number_rule (codes "width") most_64)) (number_rule (codes "indent") most_32)
+with_numbers a =
+    with_rule (with_rule a (number_rule (codes "width") most_64)) (with_letter 105 (number_rule (codes "indent") most_32))
 
--- with what says what becomes of the layouts, and of which files
+-- with what says what becomes of the layouts, and of which files; 99 is `c`, 100 is `d`, and 119 is `w`
 abbrev pub with_files : App → App
-with_files a = with_rule (with_rule (with_rule (with_rule a (flag (codes "check"))) (flag (codes "diff"))) (flag (codes "write"))) files
+with_files a =
+    with_rule (with_rule (with_rule (with_rule a (with_letter 99 (flag (codes "check")))) (with_letter 100 (flag (codes "diff"))))
+    (with_letter 119 (flag (codes "write")))) files
 
 -- the flag is given
 abbrev pub has_flag : Text → List Row → Bool

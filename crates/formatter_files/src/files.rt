@@ -8,9 +8,11 @@ use crate::arguments::shown_of;
 use crate::comparing::Comparing;
 use crate::difference::difference;
 use crate::ending::Ending;
+use crate::folder::push_paths;
 use crate::formatter::{Formatter, LayoutError, Verdict};
 use crate::hunks::hunks;
 use crate::rewriting::Rewriting;
+use crate::stamp::Stamp;
 use std::fs::{Files, OpenFile};
 use std::io::{ErrorKind, Read, Write};
 use std::{fs, io};
@@ -24,8 +26,8 @@ pub struct Task<'w> {
     pub diff: bool,
     /// Whether files are replaced by their layouts, in place of writing these to standard output.
     pub write: bool,
-    /// The names of files, of which `-` is standard input. Where there is none, standard input is meant. Its layout is
-    /// written to standard output.
+    /// The names of files, and of folders for the files below them. `-` is standard input, and so it is where there is none. Its
+    /// layout is written to standard output.
     pub files: Vec<&'w str>,
 }
 
@@ -49,8 +51,8 @@ impl From<io::Error> for Failure {
 struct SourceText<'s> {
     name: &'s str,
     bytes: &'s [u8],
-    /// Whether its layout is to replace it.
-    replaced: bool,
+    /// What its file showed when it was read. Of standard input, nothing.
+    read: Option<Stamp>,
 }
 
 /// How a text compares with its layout.
@@ -159,7 +161,7 @@ fn rewrite<R: AllocGlobal + Files + Eprint, F: Formatter>(
     formatter: &F,
     source: SourceText<'_>,
 ) -> io::Result<Ending> {
-    let mut layout = Rewriting::new(rt, source.name, source.bytes);
+    let mut layout = Rewriting::new(rt, source.name, source.read, source.bytes);
     match formatter.write_layout(rt, source.name, source.bytes, &mut layout) {
         Ok(Verdict::LaidOut) => {
             layout.finish()?;
@@ -186,7 +188,8 @@ fn lay_out<R: AllocGlobal + Files + Eprint + Print, F: Formatter>(
     ensures { (IsTrue task.now.check ⊎ IsTrue task.now.diff) → result ≡ Ok Ending.Good
         → F.IsLayout formatter.now source.entry.bytes.now source.entry.bytes.now }
 {
-    match Action::of(task.check || task.diff, source.replaced) {
+    let replaces = task.write && source.read.is_some();
+    match Action::of(task.check || task.diff, replaces) {
         Action::Compare => check(rt, formatter, task, source),
         Action::Replace => Ok(rewrite(rt, formatter, source)?),
         Action::Print => print(rt, formatter, source),
@@ -207,29 +210,46 @@ fn name_of(file: &str) -> &str {
     }
 }
 
-/// All of a file, in memory for as much as it is said to have, and one byte more to see its end.
-///
-/// An error where its name is not UTF-8: such a file can't be opened.
-fn read_file<R: AllocGlobal + Files>(rt: &R, name: &str) -> io::Result<Vec<u8>> {
-    if shown_of(name).is_some() {
-        let error = "the name is not UTF-8; its text can be given as standard input";
-        return Err(io::Error::new(ErrorKind::InvalidFilename, error));
+/// An error where the name of a file is not UTF-8: such a file can't be opened.
+fn check_name(name: &str) -> io::Result<()> {
+    if shown_of(name).is_none() {
+        return Ok(());
     }
-    let mut file = fs::open(rt, name)?;
-    let len = file.metadata().map_or(0, |data| data.len());
-    let room = usize::try_from(len).unwrap_or(usize::MAX).saturating_add(1);
-    let mut bytes = Vec::with_capacity(rt.alloc(), room)?;
-    file.read_to_end(&mut bytes)?;
-    Ok(bytes)
+    let error = "the name is not UTF-8; its text can be given as standard input";
+    Err(io::Error::new(ErrorKind::InvalidFilename, error))
 }
 
-fn read<R: AllocGlobal + Files + Input>(rt: &R, file: &str) -> io::Result<Vec<u8>> {
+/// A text that was read.
+#[derive(Drop)]
+struct ReadText {
+    bytes: Vec<u8>,
+    /// What its file showed before. Of standard input, nothing.
+    read: Option<Stamp>,
+}
+
+/// All of a file, in memory for as much as it is said to have, and one byte more to see its end.
+fn read_file<R: AllocGlobal + Files>(rt: &R, name: &str) -> io::Result<ReadText> {
+    check_name(name)?;
+    let mut file = fs::open(rt, name)?;
+    let stamp = Stamp::of(&file.metadata()?);
+    let room = usize::try_from(stamp.len)
+        .unwrap_or(usize::MAX)
+        .saturating_add(1);
+    let mut bytes = Vec::with_capacity(rt.alloc(), room)?;
+    file.read_to_end(&mut bytes)?;
+    Ok(ReadText {
+        bytes,
+        read: Some(stamp),
+    })
+}
+
+fn read<R: AllocGlobal + Files + Input>(rt: &R, file: &str) -> io::Result<ReadText> {
     if !is_input(file) {
         return read_file(rt, file);
     }
     let mut bytes = Vec::new(rt.alloc());
     rt.reader().read_to_end(&mut bytes)?;
-    Ok(bytes)
+    Ok(ReadText { bytes, read: None })
 }
 
 fn lay_out_file<R: AllocGlobal + Files + Input + Eprint + Print, F: Formatter>(
@@ -238,11 +258,11 @@ fn lay_out_file<R: AllocGlobal + Files + Input + Eprint + Print, F: Formatter>(
     task: &Task<'_>,
     file: &str,
 ) -> Result<Ending, Failure> {
-    let bytes = read(rt, file)?;
+    let ReadText { bytes, read } = read(rt, file)?;
     let source = SourceText {
         name: name_of(file),
         bytes: &bytes,
-        replaced: task.write && !is_input(file),
+        read,
     };
     lay_out(rt, formatter, task, source)
 }
@@ -276,21 +296,89 @@ fn ending_without_output<R: Eprint>(rt: &R, program: &str, error: io::Error) -> 
     ending_of(rt, program, "<stdout>", Err(error))
 }
 
+/// How a file came out, after its error is said. What is left is an error of standard output.
+fn said<R: Eprint>(
+    rt: &R,
+    program: &str,
+    file: &str,
+    outcome: Result<Ending, Failure>,
+) -> io::Result<Ending> {
+    match outcome {
+        Ok(ending) => Ok(ending),
+        Err(Failure::File(error)) => Ok(ending_of(rt, program, name_of(file), Err(error))),
+        Err(Failure::Output(error)) => Err(error),
+    }
+}
+
+/// Lays out what has this path, if it is a file whose name ends as it should. Of a folder the paths in it are appended.
+fn visit<R: AllocGlobal + Files + Input + Eprint + Print, F: Formatter>(
+    rt: &R,
+    formatter: &F,
+    task: &Task<'_>,
+    path: &str,
+    paths: &mut Vec<String>,
+) -> Result<Ending, Failure> {
+    check_name(path)?;
+    let data = fs::symlink_metadata(rt, path)?;
+    if data.is_file() && path.ends_with(formatter.ending()) {
+        return lay_out_file(rt, formatter, task, path);
+    }
+    if data.is_dir() {
+        push_paths(rt, path, paths)?;
+    }
+    Ok(Ending::Good)
+}
+
+/// Lays out the files below a folder whose names end as they should, in the order of their names. It follows no link.
+///
+/// An error where standard output fails.
+fn lay_out_below<R: AllocGlobal + Files + Input + Eprint + Print, F: Formatter>(
+    rt: &R,
+    formatter: &F,
+    task: &Task<'_>,
+    folder: &str,
+) -> io::Result<Ending> {
+    let program = formatter.program();
+    let mut paths = Vec::new(rt.alloc());
+    let opened = push_paths(rt, folder, &mut paths).map(|_| Ending::Good);
+    let mut all = ending_of(rt, program, folder, opened);
+    for _ in 0..u64::MAX {
+        let Some(path) = paths.pop() else { break };
+        let outcome = visit(rt, formatter, task, path.as_str(), &mut paths);
+        all = all.and(said(rt, program, path.as_str(), outcome)?);
+    }
+    Ok(all)
+}
+
+/// Lays out a file that is named, or the files below a folder.
+///
+/// An error where standard output fails.
+fn lay_out_named<R: AllocGlobal + Files + Input + Eprint + Print, F: Formatter>(
+    rt: &R,
+    formatter: &F,
+    task: &Task<'_>,
+    file: &str,
+) -> io::Result<Ending> {
+    match lay_out_file(rt, formatter, task, file) {
+        Err(Failure::File(error)) if error.kind() == ErrorKind::IsADirectory && !is_input(file) => {
+            lay_out_below(rt, formatter, task, file)
+        }
+        outcome => said(rt, formatter.program(), file, outcome),
+    }
+}
+
 fn lay_out_each<R: AllocGlobal + Files + Input + Eprint + Print, F: Formatter>(
     rt: &R,
     formatter: &F,
     task: &Task<'_>,
     files: &[&str],
 ) -> Ending {
-    let program = formatter.program();
     let mut all = Ending::Good;
     for file in files {
-        let result = match lay_out_file(rt, formatter, task, file) {
-            Ok(ending) => Ok(ending),
-            Err(Failure::File(error)) => Err(error),
-            Err(Failure::Output(error)) => return ending_without_output(rt, program, error),
-        };
-        all = all.and(ending_of(rt, program, name_of(file), result));
+        match lay_out_named(rt, formatter, task, file) {
+            Ok(ending) => all = all.and(ending),
+            Err(error) => return ending_without_output(rt, formatter.program(), error),
+        }
     }
     all
 }
@@ -306,9 +394,9 @@ fn refuse_to_write<R: Eprint>(rt: &R, task: &Task<'_>) -> Ending
     Ending::BadWords
 }
 
-/// Lays out each of the files, or standard input where none is named, and does with the layouts what is asked for. A file that
-/// is refused or fails is said on standard error, and the others are laid out all the same: the worst decides. Where standard
-/// output fails, that is the end, and no later file is read.
+/// Lays out each of the files and those below folders, or standard input where none is named, and does with the layouts what is
+/// asked for. A file that is refused or fails is said on standard error, and the others are laid out all the same: the worst
+/// decides. Where standard output fails, that is the end, and no later file is read.
 ///
 /// Where files are to be replaced and to be compared alone, this is said, and no file is read.
 pub fn lay_out_all<R: AllocGlobal + Files + Input + Eprint + Print, F: Formatter>(

@@ -42,6 +42,9 @@ pub trait Formatter {
     /// The name of the program, for its messages.
     fn program(&self) -> &'static str;
 
+    /// How the names of the files end that are laid out where a folder is named.
+    fn ending(&self) -> &'static str;
+
     /// Writes the layout of these bytes while it is made. They are refused after a message that says why, and names them so.
     ///
     /// Nothing is written where they are refused, nor after `Text`. After `Writer` a part may be written.

@@ -3,6 +3,7 @@ ghost use Rattle.std.specs.Prelude.{◌≡◌, IfOk};
 ghost use Rattle.std.specs.Path.{path_buf_bytes, path_bytes};
 ghost use Rattle.formatter_files.specs.Names.{path_beside};
 
+use crate::stamp::{Stamp, check_unchanged};
 use std::alloc::{AllocError, Global};
 use std::fs::{File, Files, Metadata, OpenFile, OpenOptions};
 use std::io::{ErrorKind, Write};
@@ -62,6 +63,8 @@ pub struct NewFile<F> {
     /// The path of the file that it replaces, and what is known of that.
     path: PathBuf,
     old: Metadata,
+    /// What the file showed that was read, if one was.
+    read: Option<Stamp>,
 }
 
 impl<F: Write> Write for NewFile<F> {
@@ -77,10 +80,15 @@ impl<F: Write> Write for NewFile<F> {
 }
 
 /// Makes a file that is to replace the one with this name. Where the name is that of a symbolic link, it is to replace the file
-/// that the link leads to, and the link stays. No one else may read the new file yet.
+/// that the link leads to, and the link stays. No one else may read the new file yet. What the old one showed when it was `read`
+/// it has to show once more when it is replaced.
 ///
 /// An error where any step fails, and where the file is no regular file or may not be written: then no file is left beside it.
-pub fn begin<R: Files + AllocGlobal>(rt: &R, name: &str) -> io::Result<NewFile<R::File>> {
+pub fn begin<R: Files + AllocGlobal>(
+    rt: &R,
+    name: &str,
+    read: Option<Stamp>,
+) -> io::Result<NewFile<R::File>> {
     let path = fs::canonicalize(rt, name)?;
     let old = replaceable(rt, path.as_path())?;
     let (beside, file) = create_beside(rt, path.as_path())?;
@@ -89,6 +97,7 @@ pub fn begin<R: Files + AllocGlobal>(rt: &R, name: &str) -> io::Result<NewFile<R
         beside,
         path,
         old,
+        read,
     })
 }
 
@@ -99,19 +108,31 @@ fn settle<R: Files>(rt: &R, file: R::File, beside: Path<'_>, old: &Metadata) -> 
     file.sync_all()
 }
 
+/// Has a file take the name of another that is as it was when it was read.
+fn take_name<R: Files>(
+    rt: &R,
+    beside: Path<'_>,
+    path: Path<'_>,
+    read: Option<Stamp>,
+) -> io::Result<()> {
+    check_unchanged(read, Stamp::of(&fs::metadata(rt, path)?))?;
+    fs::rename(rt, beside, path)
+}
+
 /// Has the new file replace the old one, with its owner and its permissions. Other names of the old one (hard links) keep it.
 ///
-/// An error where any step fails: then the old file is as it was, and no file is left beside it.
+/// An error where any step fails, and where the old file is not as it was when it was read: then the old file is as it was, and no file is left beside it.
 pub fn finish<R: Files>(rt: &R, new: NewFile<R::File>) -> io::Result<()> {
     let NewFile {
         file,
         beside,
         path,
         old,
+        read,
     } = new;
     let beside = beside.as_path();
     let outcome = match settle(rt, file, beside, &old) {
-        Ok(()) => fs::rename(rt, beside, path.as_path()),
+        Ok(()) => take_name(rt, beside, path.as_path(), read),
         Err(error) => Err(error),
     };
     if outcome.is_err() {

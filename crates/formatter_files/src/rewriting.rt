@@ -1,6 +1,7 @@
 //! Replacing a file by its layout where they differ, while the layout is made.
 use crate::comparing::Comparing;
 use crate::replace::{NewFile, begin, discard, finish};
+use crate::stamp::Stamp;
 use std::fs::Files;
 use std::io;
 use std::io::Write;
@@ -11,16 +12,24 @@ use std::io::Write;
 pub(crate) struct Rewriting<'r, R: Files> {
     rt: &'r R,
     name: &'r str,
+    /// What the file showed when it was read.
+    read: Option<Stamp>,
     same: Comparing<'r>,
     new: Option<NewFile<R::File>>,
 }
 
 impl<'r, R: Files + AllocGlobal> Rewriting<'r, R> {
     /// Nothing is written yet of what may replace the file with this name and this text.
-    pub(crate) fn new(rt: &'r R, name: &'r str, text: &'r [u8]) -> Rewriting<'r, R> {
+    pub(crate) fn new(
+        rt: &'r R,
+        name: &'r str,
+        read: Option<Stamp>,
+        text: &'r [u8],
+    ) -> Rewriting<'r, R> {
         Rewriting {
             rt,
             name,
+            read,
             same: Comparing::new(text),
             new: None,
         }
@@ -28,14 +37,14 @@ impl<'r, R: Files + AllocGlobal> Rewriting<'r, R> {
 
     // Begins the new file with what was the same, and these bytes.
     fn differ(&mut self, bytes: &[u8]) -> io::Result<()> {
-        let new = self.new.insert(begin(self.rt, self.name)?);
+        let new = self.new.insert(begin(self.rt, self.name, self.read)?);
         new.write_all(self.same.written())?;
         new.write_all(bytes)
     }
 
     /// Has what was written replace the file, unless it is the file's text.
     ///
-    /// An error where any step fails: then the file is as it was, and no file is left beside it.
+    /// An error where any step fails, and where the file changed since it was read: then it stays, and no file is left beside it.
     pub(crate) fn finish(mut self) -> io::Result<()> {
         if self.new.is_none() && !self.same.is_whole() {
             if let Err(error) = self.differ(&[]) {

@@ -2,7 +2,7 @@
 ghost use Rattle.std.specs.Prelude.{◌≡◌, IfOk, false};
 ghost use Rattle.clap.specs.Words.{app_of, found_of, rows_of, rule_of};
 ghost use Rattle.formatter_files.specs.Words.{HasIndent, HasWidth, IsIndent, IsTask, IsWidth, files, flag, has_flag, number_rule};
-ghost use Rattle.formatter_files.specs.Words.{program, with_files, with_numbers};
+ghost use Rattle.formatter_files.specs.Words.{program, with_files, with_letter, with_numbers};
 
 use crate::files::Task;
 use clap::builder::ValueParser;
@@ -32,14 +32,22 @@ pub fn flag<'w>(alloc: Global, name: &'w str, help: &'w str) -> Arg<'w>
         .help(help)
 }
 
+/// The option under a letter too: `-w` stands for `--write`.
+fn lettered<'w>(arg: Arg<'w>, letter: char) -> Arg<'w>
+    ensures rule { rule_of result ≡ with_letter letter (rule_of arg.entry) }
+    ensures local { result.global ≡ arg.entry.global }
+{
+    arg.short(letter)
+}
+
 /// The files, as many as there are.
 fn files<'w>(alloc: Global) -> Arg<'w>
     ensures rule { rule_of result ≡ files }
     ensures local { result.global ≡ false }
 {
-    Arg::new(alloc, "FILE")
-        .action(ArgAction::Append)
-        .help("Files to lay out, `-` for standard input [default: -]")
+    Arg::new(alloc, "FILE").action(ArgAction::Append).help(
+        "Files and folders to lay out, `-` for standard input [default: -]",
+    )
 }
 
 /// A program of this name, with no option yet. Its `version` and what it is `about` are for people.
@@ -49,7 +57,7 @@ pub fn program<'w>(alloc: Global, name: &'w str, version: &'w str, about: &'w st
     Command::new(alloc, name).version(version).about(about)
 }
 
-/// The command with the options `--width` and `--indent`, of which the second says how far the `members` are indented.
+/// The command with the options `--width` and `--indent` or `-i`, of which the second says how far the `members` are indented.
 ///
 /// `AllocError` where memory is refused.
 pub fn with_numbers<'w>(
@@ -66,30 +74,39 @@ pub fn with_numbers<'w>(
             u64::MAX,
             "The width of a line, in columns [default: 80]",
         ))?
-        .arg(number(alloc, "indent", u64::from(u32::MAX), members))
+        .arg(lettered(number(alloc, "indent", u64::from(u32::MAX), members), 'i'))
 }
 
-/// The command with `--check`, `--diff`, `--write` and the files.
+/// The command with `--check`, `--diff`, `--write`, their letters, and the files.
 ///
 /// `AllocError` where memory is refused.
 pub fn with_files<'w>(alloc: Global, command: Command<'w>) -> Result<Command<'w>, AllocError>
     ensures { IfOk result (λ made. app_of made ≡ with_files (app_of command.entry)) }
 {
     command
-        .arg(flag(
-            alloc,
-            "check",
-            "Write nothing, name each file that is not laid out so, and end with 1 if one is not",
+        .arg(lettered(
+            flag(
+                alloc,
+                "check",
+                "Write nothing, name each file that is not laid out so, and end with 1 if one is not",
+            ),
+            'c',
         ))?
-        .arg(flag(
-            alloc,
-            "diff",
-            "Write nothing to files, print how each differs from its layout, and end with 1 if one does",
+        .arg(lettered(
+            flag(
+                alloc,
+                "diff",
+                "Write nothing to files, print how each differs from its layout, and end with 1 if one does",
+            ),
+            'd',
         ))?
-        .arg(flag(
-            alloc,
-            "write",
-            "Replace each file that is not laid out so by its layout",
+        .arg(lettered(
+            flag(
+                alloc,
+                "write",
+                "Replace each file that is not laid out so by its layout",
+            ),
+            'w',
         ))?
         .arg(files(alloc))
 }

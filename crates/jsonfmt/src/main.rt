@@ -54,6 +54,10 @@ impl Formatter for Json {
         "jsonfmt"
     }
 
+    fn ending(&self) -> &'static str {
+        ".json"
+    }
+
     fn write_layout<R: AllocGlobal + Eprint, W: Write>(
         &self,
         rt: &R,

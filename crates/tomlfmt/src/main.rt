@@ -76,6 +76,10 @@ impl Formatter for Toml {
         "tomlfmt"
     }
 
+    fn ending(&self) -> &'static str {
+        ".toml"
+    }
+
     fn write_layout<R: AllocGlobal + Eprint, W: Write>(
         &self,
         rt: &R,
