@@ -1,15 +1,16 @@
 -- The bytes before where a text stops being JSON begin a text that is JSON.
 use Rattle.std.proofs.Common.{◌≡◌, ℕ, zero, suc, ◌+◌, ◌-◌, ◌≤◌, true, false, Bool, cond, ◌&&◌, ◌||◌, List, [], ◌∷◌}
 use Rattle.std.proofs.Common.{◌++◌, length, take, drop, reverse, Option, Some, None, option_and_then, refl, sym, ap, ◌∙◌, subst, arith}
-use Rattle.std.proofs.Common.{append-nil, append_assoc}
+use Rattle.std.proofs.Common.{IsSome, append-nil, append_assoc}
 use Rattle.std.specs.Prelude.{⊤}
 use Rattle.std.proofs.lemmas.Bool.{true≢false, and_parts, or_parts}
 use Rattle.std.proofs.lemmas.List.{length-append, reverse-reverse, take-append-le}
-use Rattle.std.proofs.Math.Seq.{drop-append_seam, take-append-add, take-append_seam}
+use Rattle.std.proofs.Math.Seq.{drop-append_seam, take-append-add, take-append_seam, take-length}
 use Rattle.json.specs.Text.{content}
 use Rattle.json.specs.Word.{is_operator, is_space, ends_word, head}
 use Rattle.json.specs.Lex.{Class, quote, backslash, operator, space, other, class, between, in_word, in_string, lex}
 use Rattle.json.proofs.Found.{Some_inj}
+use Rattle.json_validity.specs.Document.{document}
 use Rattle.json_lexemes.specs.Faults.{ReachesJson, StopsAtLexeme, expects_string}
 use Rattle.json_lexemes.specs.Laws.{BeginsJson, FrontsBeginJson, StringsBeginJson, TextsBeginJson}
 use Rattle.json_lexemes.specs.Lexemes.{lengthened, cut, lexemes}
@@ -20,7 +21,7 @@ use Rattle.json_lexemes.specs.Readings.{JsonReading, JsonSort, before, after_val
 use Rattle.json_lexemes.specs.Readings.{json_reading_after, json_sort_of, json_step, keyed, sort_step, valued}
 use Rattle.json_lexemes.specs.Spaced.{IsGap}
 use Rattle.json_lexemes.specs.SpacedLexemes.{AreGaps, Spaced, after_gap, lexemes_of, put_together, spaced_as, spaced_lexemes}
-use Rattle.json_lexemes.specs.Strings.{is_closed_at}
+use Rattle.json_lexemes.specs.Strings.{BeginsString, IsStringFault, is_closed_at}
 use Rattle.json_lexemes.specs.declared.expected.Expected.{Expected}
 use Rattle.json_lexemes.specs.declared.expected.Expected.TheVariants as want
 use Rattle.json_lexemes.specs.declared.next.Bracket.{Bracket}
@@ -486,27 +487,67 @@ quote_alone : is_leaf (34 ∷ []) ≡ false
 unfolding lex content
 quote_alone = bad_leaf (34 ∷ []) [] refl
 
-pub strings_begin : StringsBeginJson
-strings_begin text offset e stop fault opens may =
-    let lexeme = stop.found.lexeme in
-    let bytes = bytes_before text offset e stop in
-    let after = bytes_after text offset e stop in
-    let here : take (offset - stop.within + fault.allowed) text ≡ bytes ++ take fault.allowed lexeme =
-    ap (λ (k : ℕ). take (k + fault.allowed) text) (count_before text offset e stop)
-    ∙ ap (λ (l : List ℕ). take (length bytes + fault.allowed) l) (text_parts text offset e stop)
-    ∙ take-append-add bytes (lexeme ++ after) fault.allowed
-    ∙ ap (λ (l : List ℕ). bytes ++ l) (take-append-le fault.allowed lexeme after fault.longest.within) in
-    subst BeginsJson (sym here) (by fault.allowed fault.longest.closed)
-  where
-    is : stop.found.lexeme ≡ 34 ∷ drop 1 stop.found.lexeme
-    is = quote_first stop.found.lexeme opens
+-- what begins with these bytes begins with the first of them
+begins_less : (a b : List ℕ) → BeginsJson (a ++ b) → BeginsJson a
+begins_less a b (rest, json) = (b ++ rest, subst (λ (l : List ℕ). IsSome (document l)) (append_assoc a b rest) json)
 
-    by : (a : ℕ) → is_closed_at stop.found.lexeme a ≡ true → BeginsJson (bytes_before text offset e stop ++ take a stop.found.lexeme)
-    by zero leaf = absurd (true≢false (sym leaf ∙ quote_alone))
-    by (suc n) leaf =
-        let f = drop 1 stop.found.lexeme in
-        let closed : is_leaf (34 ∷ (take n f ++ 34 ∷ [])) ≡ true = sym (ap (λ (l : List ℕ). is_closed_at l (suc n)) is) ∙ leaf in
-        let step = string_step stop.reading (34 ∷ (take n f ++ 34 ∷ [])) closed may in
-        subst (λ (l : List ℕ). BeginsJson (bytes_before text offset e stop ++ take (suc n) l)) (sym is)
-        (begins_string text stop.found stop.later stop.reading step.0 stop.reached (gap_before text offset e stop) f (take n f) is closed
-        step.1)
+module _ (text : List ℕ) (offset : ℕ) (e : Expected) (stop : StopsAtLexeme text offset e) (opens : head stop.found.lexeme ≡ 34)
+    (may : expects_string stop.reading.next ≡ true) where
+  abbrev found : List ℕ
+  found = stop.found.lexeme
+
+  abbrev opened : List ℕ
+  opened = drop 1 found
+
+  abbrev ahead : List ℕ
+  ahead = bytes_before text offset e stop
+
+  is_opened : found ≡ 34 ∷ opened
+  is_opened = quote_first found opens
+
+  string_begins : (p : List ℕ) → is_leaf (34 ∷ (p ++ 34 ∷ [])) ≡ true → BeginsJson (ahead ++ 34 ∷ p)
+  string_begins p leaf =
+      let step = string_step stop.reading (34 ∷ (p ++ 34 ∷ [])) leaf may in
+      begins_string text stop.found stop.later stop.reading step.0 stop.reached (gap_before text offset e stop) opened p is_opened leaf
+      step.1
+
+  closed_begins : (n : ℕ) → is_closed_at found n ≡ true → BeginsJson (ahead ++ take n found)
+  closed_begins zero leaf = absurd (true≢false (sym leaf ∙ quote_alone))
+  closed_begins (suc n) leaf =
+      subst (λ (l : List ℕ). BeginsJson (ahead ++ take (suc n) l)) (sym is_opened)
+      (string_begins (take n opened) (sym (ap (λ (l : List ℕ). is_closed_at l (suc n)) is_opened) ∙ leaf))
+
+  open_begins : BeginsString found → BeginsJson (ahead ++ found)
+  open_begins (more, leaf) =
+      let closed = sym (ap (λ (l : List ℕ). is_leaf ((l ++ more) ++ 34 ∷ [])) is_opened) ∙ leaf in
+      subst (λ (l : List ℕ). BeginsJson (ahead ++ l)) (sym is_opened)
+      (begins_less (ahead ++ 34 ∷ opened) more
+      (subst BeginsJson (sym (append_assoc ahead (34 ∷ opened) more)) (string_begins (opened ++ more) closed)))
+
+  up_to : (n : ℕ) → n ≤ length found → stop.within ≡ n → take offset text ≡ ahead ++ take n found
+  up_to n le is =
+      let count : offset ≡ length ahead + n =
+      omega (arith, stop.place, is, length-append (put_together stop.reached.front) stop.found.gap) in
+      let after = bytes_after text offset e stop in
+      ap (λ (k : ℕ). take k text) count
+      ∙ ap (λ (l : List ℕ). take (length ahead + n) l) (text_parts text offset e stop)
+      ∙ take-append-add ahead (found ++ after) n
+      ∙ ap (λ (l : List ℕ). ahead ++ l) (take-append-le n found after le)
+
+  stop_begins : IsStringFault found stop.within e → BeginsJson (take offset text)
+  stop_begins fault = by fault.goes_on refl
+    where
+      place : (b : Bool) → fault.goes_on ≡ b → stop.within ≡ cond b (length found) fault.allowed
+      place b so = fault.place ∙ ap (λ t. cond t (length found) fault.allowed) so
+
+      by : (b : Bool) → fault.goes_on ≡ b → BeginsJson (take offset text)
+      by true so =
+          subst BeginsJson
+          (sym (up_to (length found) (omega arith) (place true so) ∙ ap (λ (l : List ℕ). ahead ++ l) (take-length found)))
+          (open_begins (fault.begins.0 so))
+      by false so =
+          subst BeginsJson (sym (up_to fault.allowed fault.longest.within (place false so)))
+          (closed_begins fault.allowed fault.longest.closed)
+
+pub strings_begin : StringsBeginJson
+strings_begin text offset e stop fault opens may = stop_begins text offset e stop opens may fault

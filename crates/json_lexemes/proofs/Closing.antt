@@ -147,7 +147,7 @@ module _ (front says : List ℕ) (reads : (r : List ℕ) → content plain (fron
       ap (λ (l : List ℕ). lex between (34 ∷ l)) (sym (append_assoc front (34 ∷ []) r) ∙ ap (λ (l : List ℕ). l ++ r) (sym with_quote))
       ∙ whole.lexed r
 
-  closed_leaf : is_leaf (34 ∷ (front ++ 34 ∷ [])) ≡ true
+  pub closed_leaf : is_leaf (34 ∷ (front ++ 34 ∷ [])) ≡ true
   closed_leaf = string_leaf _ says (before_rest [] ∙ ap (λ (l : List Lexeme). token (string says) ∷ l) no_lexeme)
 
   -- a quote within

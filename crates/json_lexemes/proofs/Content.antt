@@ -12,11 +12,12 @@ use Rattle.std.proofs.lemmas.Bool.{cases_Bool, false≢true, le-ltb, lt-ltb, ltb
 use Rattle.json.proofs.Found.{not_found}
 use Rattle.json_lexemes.specs.Laws.{StringsStopOnce}
 use Rattle.json_lexemes.specs.Strings.{HasNoPart, IsLongestClosed, IsStringPart, IsStringFault, NeverCloses, Reads}
-use Rattle.json_lexemes.specs.Strings.{expected_in_string, first_unit, is_lone_backslash}
+use Rattle.json_lexemes.specs.Strings.{expected_in_string, first_unit, padded_unit}
 use Rattle.json_lexemes.specs.declared.expected.Expected.{Expected}
+use Rattle.json_lexemes.specs.declared.expected.Expected.TheVariants as want
 
 pub string_within : (s : List ℕ) (d : ℕ) (e : Expected) → IsStringFault s d e → d ≤ length s
-string_within s d e h = omega (arith, h.place, one_of (is_lone_backslash (drop h.allowed s)) h.longest.within)
+string_within s d e h = omega (arith, h.place, one_of h.goes_on h.longest.within)
   where
     one_of : (b : Bool) → h.allowed ≤ length s → cond b (length s) h.allowed ≤ length s
     one_of true le = omega arith
@@ -26,11 +27,18 @@ string_within s d e h = omega (arith, h.place, one_of (is_lone_backslash (drop h
 no_less : (s : List ℕ) (n m : ℕ) → IsLongestClosed s n → IsLongestClosed s m → n < m → ⊥
 no_less s n m a b less = true≢false (sym b.closed ∙ a.longest m less b.within)
 
+-- two tests of one thing
+agree : (x y : Bool) → (x ≡ true → y ≡ true) → (y ≡ true → x ≡ true) → x ≡ y
+agree true y f g = sym (f refl)
+agree false true f g = g refl
+agree false false f g = refl
+
 pub stops_once : StringsStopOnce
 stops_once s d other e f a b =
-    let same : a.allowed ≡ b.allowed = by (cases_Bool (nat_lt a.allowed b.allowed)) (cases_Bool (nat_lt b.allowed a.allowed)) in (
-      a.place ∙ ap (λ k. cond (is_lone_backslash (drop k s)) (length s) k) same ∙ sym b.place,
-      a.expects ∙ ap (λ k. expected_in_string (drop k s)) same ∙ sym b.expects,
+    let same : a.allowed ≡ b.allowed = by (cases_Bool (nat_lt a.allowed b.allowed)) (cases_Bool (nat_lt b.allowed a.allowed)) in
+    let both : a.goes_on ≡ b.goes_on = agree a.goes_on b.goes_on (λ x. b.begins.1 (a.begins.0 x)) (λ x. a.begins.1 (b.begins.0 x)) in (
+      a.place ∙ (λ i. cond (both i) (length s) (same i)) ∙ sym b.place,
+      a.expects ∙ (λ i. cond (both i) want.Quote (expected_in_string (drop (same i) s))) ∙ sym b.expects,
     )
   where
     by : (nat_lt a.allowed b.allowed ≡ true) ⊎ (nat_lt a.allowed b.allowed ≡ false) →
@@ -56,7 +64,7 @@ unit_quote a b c = ap (λ t. cond t (Some (digit_value a * 4096 + digit_value b 
     (and_false (is_digit a 16 && is_digit b 16 && is_digit c 16))
 
 pub unit_at : (bytes : List ℕ) → 4 ≤ length bytes
-    → first_unit bytes ≡ code_unit (get_or bytes 0 0) (get_or bytes 1 0) (get_or bytes 2 0) (get_or bytes 3 0)
+    → first_unit bytes ≡ padded_unit bytes 48 48
 unit_at [] h = absurd (omega arith)
 unit_at (a ∷ []) h = absurd (omega arith)
 unit_at (a ∷ b ∷ []) h = absurd (omega arith)
@@ -72,7 +80,7 @@ no_unit (a ∷ b ∷ c ∷ d ∷ xs) h = absurd (omega arith)
 
 -- ---- the second half of a surrogate pair
 
-abbrev if_low : ℕ → Option ℕ
+abbrev pub if_low : ℕ → Option ℕ
 if_low l = cond (is_low_surrogate l) (Some l) None
 
 -- the code unit of such an escape, with which these bytes begin
@@ -181,10 +189,10 @@ reads_half h v (s ∷ u ∷ a ∷ b ∷ c ∷ d ∷ xs) e =
 -- ---- an escape by number
 
 -- what follows its digits, by whether they are one half of a pair or the other
-abbrev unit_by : Bool → Bool → List ℕ → ℕ → Option (List ℕ)
+abbrev pub unit_by : Bool → Bool → List ℕ → ℕ → Option (List ℕ)
 unit_by high low xs u = cond high (content (after_high u) xs) (cond low None (prepend (encode_utf8 u) (content plain xs)))
 
-abbrev unit_then : List ℕ → ℕ → Option (List ℕ)
+abbrev pub unit_then : List ℕ → ℕ → Option (List ℕ)
 unit_then xs u = unit_by (is_high_surrogate u) (is_low_surrogate u) xs u
 
 no_digits : (front rest : List ℕ) → first_unit (front ++ rest) ≡ None → content after_u (front ++ 34 ∷ []) ≡ None

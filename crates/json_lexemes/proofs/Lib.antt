@@ -20,5 +20,6 @@ mod Meeting
 mod Completed
 mod Accepted
 mod Closing
+mod CutOff
 mod Stopped
 mod Begun

@@ -55,7 +55,7 @@ then {w} {v} {p} {f} {s} {xs} leads e closed =
       cuts = λ r. ap (cut (mode w)) (append_assoc p c.front r) ∙ leads.cuts (c.front ++ r) c.front (cut between r) (c.cuts r);
     }
 
-prepend-nil : (o : Option (List ℕ)) → o ≡ prepend [] o
+pub prepend-nil : (o : Option (List ℕ)) → o ≡ prepend [] o
 prepend-nil None = refl
 prepend-nil (Some s) = refl
 

@@ -1,5 +1,5 @@
 -- What holds of the lexemes of a text.
-use Rattle.std.specs.Prelude.{◌≡◌, ◌≢◌, ◌↔◌, ℕ, ◌+◌, ◌-◌, true, List, [], ◌∷◌, ◌++◌, take, Some, None, IsSome, All}
+use Rattle.std.specs.Prelude.{◌≡◌, ◌≢◌, ◌↔◌, ℕ, ◌-◌, true, List, [], ◌∷◌, ◌++◌, take, Some, None, IsSome, All}
 use Rattle.json.specs.Ascii as ascii
 use Rattle.json.specs.Json.{Json}
 use Rattle.json.specs.Word.{head}
@@ -62,12 +62,12 @@ abbrev pub FrontsBeginJson : Type 0
 FrontsBeginJson = (text : List ℕ) (offset : ℕ) (e : Expected) (stop : StopsAtLexeme text offset e)
     → BeginsJson (take (offset - stop.within) text)
 
--- in a string that may come, so are those up to where a quote closes a string of JSON
+-- in a string that may come, so are those before the place where it stops
 abbrev pub StringsBeginJson : Type 0
 StringsBeginJson =
     (text : List ℕ) (offset : ℕ) (e : Expected) (stop : StopsAtLexeme text offset e)
-    (fault : IsStringFault stop.found.lexeme stop.within e) → head stop.found.lexeme ≡ ascii.quote
-    → expects_string stop.reading.next ≡ true → BeginsJson (take (offset - stop.within + fault.allowed) text)
+    → IsStringFault stop.found.lexeme stop.within e → head stop.found.lexeme ≡ ascii.quote
+    → expects_string stop.reading.next ≡ true → BeginsJson (take offset text)
 
 -- and all bytes of a text that stops at its end
 abbrev pub TextsBeginJson : Type 0

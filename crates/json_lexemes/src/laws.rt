@@ -34,7 +34,7 @@ pub fn law_grammar()
 /// none where it stops at a lexeme or at its end, as `fault_of` has it, and neither is any other text with the same lexemes
 /// up to that one. The bytes before that lexeme begin a text that is JSON, or all bytes do where it stops at its end. In a
 /// string it stops at one place, and one thing was expected there. The bytes before that place begin a text that is JSON
-/// too, but for a backslash that the text ends with.
+/// too.
 pub fn law_stops()
     ensures whole { WholeTextsAreJson }
     ensures lexeme { NoneGoesOn }

@@ -1,12 +1,12 @@
 //! What JSON does not allow in a string.
-ghost use Rattle.std.specs.Prelude.{◌≡◌, ℕ, ◌+◌, ◌≤◌, ◌∷◌, length, is_some, MatchOption};
+ghost use Rattle.std.specs.Prelude.{◌≡◌, ℕ, ◌≤◌, ◌∷◌, length, slice_index_or, is_some, MatchOption, drop};
 ghost use Rattle.std.specs.Char.{digit_value};
 ghost use Rattle.json.specs.Ascii as ascii;
 ghost use Rattle.json.specs.Text.{after_backslash, after_high, after_u, is_high_surrogate, is_low_surrogate};
-ghost use Rattle.json.specs.Text.{short_escape};
+ghost use Rattle.json.specs.Text.{plain, short_escape};
 ghost use Rattle.json.specs.Word.{head};
-ghost use Rattle.json_lexemes.specs.Strings.{HasNoPart, IsLongestClosed, IsStringPart, IsStringFault, NeverCloses, Reads};
-ghost use Rattle.json_lexemes.specs.Strings.{expected_for_escape, expected_in_string, first_unit, is_lone_backslash};
+ghost use Rattle.json_lexemes.specs.Strings.{HasNoPart, HasParts, IsStringPart, IsStringFault, NeverCloses, Reads, TellsOfMore};
+ghost use Rattle.json_lexemes.specs.Strings.{TellsOfString, expected_for_escape, expected_in_string, first_unit, padded_unit};
 
 use crate::expected::Expected;
 
@@ -22,23 +22,43 @@ fn digit(byte: u8) -> u32
     }
 }
 
-/// The code unit that four hexadecimal digits spell, if these bytes begin with them.
-fn code_unit(bytes: &[u8]) -> Option<u32>
-    ensures { result ≡ first_unit bytes.now }
+/// The byte at this place, or this one where there is none.
+fn byte_or(bytes: &[u8], index: usize, other: u8) -> u8
+    ensures { result ≡ slice_index_or bytes.now index other }
 {
-    if bytes.len() < 4 {
-        return None;
+    if index < bytes.len() {
+        bytes[index]
+    } else {
+        other
     }
+}
+
+/// The code unit that four hexadecimal digits spell, with which these bytes begin, or that they begin: the first and the second
+/// digit are these where they are missing, and the others 0.
+fn padded_unit(bytes: &[u8], first: u8, second: u8) -> Option<u32>
+    ensures { result ≡ padded_unit bytes.now first second }
+{
     let (a, b, c, d) = (
-        digit(bytes[0]),
-        digit(bytes[1]),
-        digit(bytes[2]),
-        digit(bytes[3]),
+        digit(byte_or(bytes, 0, first)),
+        digit(byte_or(bytes, 1, second)),
+        digit(byte_or(bytes, 2, b'0')),
+        digit(byte_or(bytes, 3, b'0')),
     );
     if (a < 16) & (b < 16) & (c < 16) & (d < 16) {
         Some(a * 4096 + b * 256 + c * 16 + d)
     } else {
         None
+    }
+}
+
+/// The code unit that four hexadecimal digits spell, if these bytes begin with them.
+fn code_unit(bytes: &[u8]) -> Option<u32>
+    ensures { result ≡ first_unit bytes.now }
+{
+    if bytes.len() < 4 {
+        None
+    } else {
+        padded_unit(bytes, b'0', b'0')
     }
 }
 
@@ -120,7 +140,8 @@ fn first_part(bytes: &[u8]) -> Option<usize>
 
 /// How many bytes the parts have together with which these begin, in a string.
 fn parts(bytes: &[u8]) -> usize
-    ensures { IsLongestClosed (ascii.quote ∷ bytes.now) (1 + result) }
+    ensures reads { Reads plain bytes.now result }
+    ensures last { HasNoPart (drop result bytes.now) }
 {
     let mut len = 0;
     while let Some(part) = first_part(&bytes[len..]) {
@@ -129,10 +150,10 @@ fn parts(bytes: &[u8]) -> usize
     len
 }
 
-/// How many bytes of a string, spelled with its quotes, come before what JSON does not allow.
+/// How many bytes of a string, spelled with its quotes, come before what JSON does not allow, or before its end.
 fn allowed_len(bytes: &[u8]) -> usize
     ensures within { result ≤ length bytes.now }
-    ensures longest { head bytes.now ≡ ascii.quote → IsLongestClosed bytes.now result }
+    ensures parts { head bytes.now ≡ ascii.quote → HasParts bytes.now result }
 {
     match bytes.split_first() {
         Some((_, content)) => 1 + parts(content),
@@ -140,14 +161,87 @@ fn allowed_len(bytes: &[u8]) -> usize
     }
 }
 
+/// Whether the digits of the second half of a surrogate pair go on after these.
+fn low_goes_on(digits: &[u8]) -> bool
+    ensures { (high : ℕ) → TellsOfMore (after_high high) (ascii.backslash ∷ ascii.lower_u ∷ digits.now) result }
+{
+    if digits.len() > 3 {
+        return false;
+    }
+    match padded_unit(digits, b'd', b'c') {
+        Some(unit) => is_low(unit),
+        None => false,
+    }
+}
+
+/// Whether the second half of a surrogate pair goes on after these bytes.
+fn half_goes_on(bytes: &[u8]) -> bool
+    ensures { (high : ℕ) → TellsOfMore (after_high high) bytes.now result }
+{
+    let Some((first, rest)) = bytes.split_first() else {
+        return true;
+    };
+    if *first != b'\\' {
+        return false;
+    }
+    let Some((second, digits)) = rest.split_first() else {
+        return true;
+    };
+    if *second != b'u' {
+        return false;
+    }
+    low_goes_on(digits)
+}
+
+/// Whether an escape by number, or a surrogate pair, goes on after these bytes, which follow its `\u`.
+fn number_goes_on(bytes: &[u8]) -> bool
+    ensures { TellsOfMore after_u bytes.now result }
+{
+    let Some(unit) = padded_unit(bytes, b'0', b'0') else {
+        return false;
+    };
+    if bytes.len() < 4 {
+        return !is_low(unit);
+    }
+    if is_high(unit) {
+        return half_goes_on(&bytes[4..]);
+    }
+    false
+}
+
+/// Whether an escape goes on after these bytes, which follow its backslash.
+fn escape_goes_on(bytes: &[u8]) -> bool
+    ensures { TellsOfMore after_backslash bytes.now result }
+{
+    let Some((first, rest)) = bytes.split_first() else {
+        return true;
+    };
+    if *first == b'u' {
+        return number_goes_on(rest);
+    }
+    false
+}
+
+/// Whether a string goes on after these bytes, no part of which JSON allows: they are none, or the beginning of an escape.
+fn goes_on(bytes: &[u8]) -> bool
+    ensures { TellsOfString bytes.now result }
+{
+    let Some((first, rest)) = bytes.split_first() else {
+        return true;
+    };
+    if *first == b'\\' {
+        return escape_goes_on(rest);
+    }
+    false
+}
+
 /// What was expected in place of an escape, of which this follows the backslash.
 fn expected_for_escape(bytes: &[u8]) -> Expected
     ensures { result ≡ expected_for_escape bytes.now }
 {
     match bytes.split_first() {
-        None => Expected::Quote,
         Some((b'u', digits)) if code_unit(digits).is_some() => Expected::Pair,
-        Some(_) => Expected::Escape,
+        _ => Expected::Escape,
     }
 }
 
@@ -188,21 +282,13 @@ fn escape_len(bytes: &[u8]) -> usize {
 }
 
 /// How many bytes a message shows of what JSON does not allow: an escape with its digits or its character, or one byte.
-/// None at the end, also after a backslash.
 fn refused_len(bytes: &[u8]) -> usize {
     match (bytes.first(), bytes.get(1)) {
-        (None, _) | (Some(b'\\'), None) => 0,
+        (None, _) => 0,
         (Some(b'\\'), Some(b'u')) => digits(bytes).saturating_add(2),
         (Some(b'\\'), Some(_)) => escape_len(bytes),
         (Some(_), _) => 1,
     }
-}
-
-/// Whether this is a backslash and the end.
-fn is_lone_backslash(bytes: &[u8]) -> bool
-    ensures { result ≡ is_lone_backslash bytes.now }
-{
-    matches!(bytes, [b'\\'])
 }
 
 /// Where a string stops being one of JSON.
@@ -217,22 +303,24 @@ pub(crate) struct RefusedPart<'s> {
 }
 
 /// The first part of a string, spelled with its quotes, that JSON does not allow: an escape, half of a surrogate pair,
-/// the end of a line, or another control character. Where it has none, its end.
+/// the end of a line, or another control character. Where it has none, its end, also within an escape.
 pub(crate) fn refused_part(string: &str) -> RefusedPart<'_>
     ensures { head string.now ≡ ascii.quote → IsStringFault string.now result.offset result.expected }
 {
     let bytes = string.as_bytes();
     let allowed = allowed_len(bytes);
     let rest = &bytes[allowed..];
-    let offset = if is_lone_backslash(rest) {
-        bytes.len()
-    } else {
-        allowed
-    };
-    let end = offset.saturating_add(refused_len(rest));
+    if goes_on(rest) {
+        return RefusedPart {
+            offset: bytes.len(),
+            expected: Expected::Quote,
+            text: "",
+        };
+    }
+    let end = allowed.saturating_add(refused_len(rest));
     RefusedPart {
-        offset,
+        offset: allowed,
         expected: expected_in(rest),
-        text: string.get(offset..end).unwrap_or(""),
+        text: string.get(allowed..end).unwrap_or(""),
     }
 }

@@ -1,16 +1,9 @@
-use Rattle.std.proofs.Common.{arith}
-use Rattle.json.specs.Text.{code_unit}
-use Rattle.json_lexemes.proofs.Content.{unit_at}
+use Rattle.std.proofs.Common.{sym, ◌∙◌, arith}
+use Rattle.json_lexemes.proofs.Content.{no_unit, unit_at}
 use Rattle.json_lexemes.proofs.string.code_unit.Goals as goal
 
-pub returns-then-a-b : goal.returns-then-a-b
-unfolding code_unit
-returns-then-a-b c =
-    rw (unit_at c.args.bytes.now (omega arith), ← c.digit-a.ensures, ← c.digit-b.ensures, ← c.digit-c.ensures, ← c.digit-d.ensures)
-    (grind arith)
+pub returns-then-bytes-lt4 : goal.returns-then-bytes-lt4
+returns-then-bytes-lt4 c = sym (no_unit c.args.bytes.now (omega arith))
 
-pub returns-else-a-b : goal.returns-else-a-b
-unfolding code_unit
-returns-else-a-b c =
-    rw (unit_at c.args.bytes.now (omega arith), ← c.digit-a.ensures, ← c.digit-b.ensures, ← c.digit-c.ensures, ← c.digit-d.ensures)
-    (grind arith)
+pub returns-else-bytes-lt4 : goal.returns-else-bytes-lt4
+returns-else-bytes-lt4 c = c.padded_unit.ensures ∙ sym (unit_at c.args.bytes.now (omega arith))

@@ -1,10 +1,10 @@
 use Rattle.json_lexemes.proofs.Content.{take_rest}
-use Rattle.json_lexemes.proofs.Closing.{longest_closed, reads_more}
+use Rattle.json_lexemes.proofs.Closing.{reads_more}
 use Rattle.json_lexemes.proofs.string.parts.Goals as goal
 
 pub loop-part-preserved : goal.loop-part-preserved
 loop-part-preserved c =
     reads_more c.args.bytes.now c.loop-part.len c.in-Some.part c.loop-part.invariant (rw take_rest at c.in-Some.ensures.reads)
 
-pub returns : goal.returns
-returns c = longest_closed c.args.bytes.now c.loop-part.len c.loop-part.invariant (rw take_rest at c.in_default.ensures)
+pub returns-clause-last : goal.returns-clause-last
+returns-clause-last c = rw take_rest at c.in_default.ensures
