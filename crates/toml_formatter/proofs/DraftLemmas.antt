@@ -14,12 +14,12 @@ use Rattle.toml_grammar.specs.Sorts as sort
 use Rattle.toml_grammar.specs.Sorts.{Sort, sort_of}
 use Rattle.toml_grammar.proofs.Allowed.{sort_remark, sort_string}
 use Rattle.toml_statements.specs.Statements.{trimmed}
-use Rattle.toml_formatter.specs.Documents.{after_comma, after_remarks, after_rest, closed_end, comma_kept, document_from, Draft, End, ends_item}
+use Rattle.toml_formatter.specs.Documents.{end_after_comma, after_remarks, after_rest, closed_end, comma_kept, document_from, Draft, End, ends_item}
 use Rattle.toml_formatter.specs.Documents.{entry_with_comma, is_array, is_some, Level, level_end, levels_with, lexeme_tree, list_tree}
 use Rattle.toml_formatter.specs.Documents.{new_level, new_statement, part_end, Remarked, remark_tree, remarks_tree, separated, trailed_end}
-use Rattle.toml_formatter.specs.Documents.{draft_with, unclosed_tree, with_comma, with_line_end, with_part, with_remark, with_statement}
+use Rattle.toml_formatter.specs.Documents.{draft_with, unclosed_tree, level_with_comma, with_line_end, with_part, with_remark, draft_with_statement}
 use Rattle.toml_formatter.specs.Drafts.{AreAround, line_end, ReadsFirst, ReadsOn, ReadsPart, ReadsStatement, settled_end, Stands}
-use Rattle.toml_formatter.specs.Gaps.{gap_before, gap_before_comma, gap_before_remark}
+use Rattle.toml_formatter.specs.Gaps.{gap_before_part, gap_before_comma, gap_before_remark}
 use Rattle.toml_formatter.specs.Kinds.{is_closing, is_opening, IsPart, kind_in, last_after, last_after_sort, sort_for}
 use Rattle.toml_formatter.specs.Lexing.{ClosesNext}
 use Rattle.toml_formatter.specs.Lines.{begun, may_hold}
@@ -117,13 +117,13 @@ line_end_stands lv line h = record {
 -- the comma that waits in its place
 pub comma_end : (line : Line) (doc : RefDoc) (x : Tree) (g : Gap) → line.comma ≡ true → ref_tree doc ≡ separated g (ref_tree line.doc) x
     → g ≡ gap_before_comma line.last → x ≡ counted.text (comma ∷ [])
-    → line_end (record line { doc = doc; last = last.Comma; comma = false }) ≡ after_comma line.comma (line_end line)
+    → line_end (record line { doc = doc; last = last.Comma; comma = false }) ≡ end_after_comma line.comma (line_end line)
 comma_end line doc x g waits made gap is =
     let tree : ref_tree doc ≡ separated (gap_before_comma line.last) (ref_tree line.doc) (counted.text (comma ∷ [])) =
     made ∙ (λ j. separated (gap j) (ref_tree line.doc) (is j)) in
-    let all : line_end (record line { doc = doc; last = last.Comma; comma = false }) ≡ after_comma true (line_end line) =
+    let all : line_end (record line { doc = doc; last = last.Comma; comma = false }) ≡ end_after_comma true (line_end line) =
     λ i. record { tree = tree i; last = last.Comma } in
-    all ∙ ap (λ (b : Bool). after_comma b (line_end line)) (sym waits)
+    all ∙ ap (λ (b : Bool). end_after_comma b (line_end line)) (sym waits)
 
 -- the remarks that wait in their place
 pub remarks_end : (line : Line) (doc : RefDoc) → line.is_remarked ≡ true → ref_tree doc ≡ append (ref_tree line.doc) (ref_tree line.remarks)
@@ -145,9 +145,9 @@ pub settled_as : (lv : Level) (line : Line) (b c : Bool) → Stands lv line → 
 settled_as lv line b c h same =
     let rs = lv.entry.remarks in
     let l = (part_end lv).last in
-    after_same line.is_remarked (is_some rs) (ref_tree line.remarks) (remarks_tree lv.kind l rs) (after_comma b (line_end line)) h.remarked
+    after_same line.is_remarked (is_some rs) (ref_tree line.remarks) (remarks_tree lv.kind l rs) (end_after_comma b (line_end line)) h.remarked
     (λ e. h.remarks e ∙ ap (λ (x : End). remarks_tree lv.kind x.last rs) h.end)
-    ∙ (λ i. after_remarks (is_some rs) (remarks_tree lv.kind l rs) (after_comma (same i) (h.end i)))
+    ∙ (λ i. after_remarks (is_some rs) (remarks_tree lv.kind l rs) (end_after_comma (same i) (h.end i)))
 
 pub settled_same : (lv : Level) (line : Line) → Stands lv line → settled_end line ≡ level_end lv
 settled_same lv line h = settled_as lv line line.comma lv.entry.comma h h.comma
@@ -186,7 +186,7 @@ same_test lv line b h e =
 
 -- a comma after which nothing is settled
 pub comma_waits : (lv : Level) (line : Line) → Stands lv line → (line.comma || may_hold line.last) ≡ false
-    → Stands (with_comma lv) (record line { comma = true; broken = false; blank = false })
+    → Stands (level_with_comma lv) (record line { comma = true; broken = false; blank = false })
 comma_waits lv line h e =
     subst (λ (b : Bool). Stands (entry_with_comma b lv) (record line { comma = true; broken = false; blank = false }))
     (sym (same_test lv line false h e)) (comma_more lv line h)
@@ -194,7 +194,7 @@ comma_waits lv line h e =
 -- a comma after what was settled
 pub comma_follows : (lv : Level) (line settled : Line) → Stands lv line → (line.comma || may_hold line.last) ≡ true
     → line_end settled ≡ settled_end line → settled.is_remarked ≡ false
-    → Stands (with_comma lv) (record settled { comma = true; broken = false; blank = false })
+    → Stands (level_with_comma lv) (record settled { comma = true; broken = false; blank = false })
 comma_follows lv line settled h e is none =
     subst (λ (b : Bool). Stands (entry_with_comma b lv) (record settled { comma = true; broken = false; blank = false }))
     (sym (same_test lv line true h e)) (comma_new lv settled (is ∙ settled_same lv line h) none)
@@ -228,7 +228,7 @@ remark_stands lv line kind s g front x doc kinds h is fronts xs made = record {
 -- a part more, on a line on which nothing waits
 pub part_stands : (lv : Level) (line : Line) (kind : Kind) (x : Lexeme) (value : Tree) (doc : RefDoc) (g : Gap) (l : Last)
     → HasTomlKind x → IsPart x → lv.kind ≡ kind → line_end line ≡ level_end lv → line.comma ≡ false → line.is_remarked ≡ false
-    → line.blank ≡ lv.blank → g ≡ gap_before kind line.last (sort_for x) line.blank → ref_tree doc ≡ separated g (ref_tree line.doc) value
+    → line.blank ≡ lv.blank → g ≡ gap_before_part kind line.last (sort_for x) line.blank → ref_tree doc ≡ separated g (ref_tree line.doc) value
     → l ≡ last_after x
     → Stands (with_part lv (toml_text_of x) value) (record line { doc = doc; last = l; broken = false; blank = false })
 part_stands lv line kind x value doc g l named part kinds is no_comma no_remarks blanks gap made lasts = record {
@@ -240,10 +240,10 @@ part_stands lv line kind x value doc g l named part kinds is no_comma no_remarks
   blank = refl;
 }
   where
-    gaps : g ≡ gap_before lv.kind (level_end lv).last (sort_of (toml_text_of x)) lv.blank
-    gaps = gap ∙ (λ i. gap_before (sym kinds i) ((is i).last) (sym (sort_known x named) i) (blanks i))
+    gaps : g ≡ gap_before_part lv.kind (level_end lv).last (sort_of (toml_text_of x)) lv.blank
+    gaps = gap ∙ (λ i. gap_before_part (sym kinds i) ((is i).last) (sym (sort_known x named) i) (blanks i))
 
-    trees : ref_tree doc ≡ separated (gap_before lv.kind (level_end lv).last (sort_of (toml_text_of x)) lv.blank) (level_end lv).tree value
+    trees : ref_tree doc ≡ separated (gap_before_part lv.kind (level_end lv).last (sort_of (toml_text_of x)) lv.blank) (level_end lv).tree value
     trees = made ∙ (λ i. separated (gaps i) ((is i).tree) value)
 
     ends : l ≡ last_after_sort (sort_of (toml_text_of x))
@@ -449,17 +449,17 @@ comma_kind true lv = (refl, refl)
 comma_kind false lv = (refl, refl)
 
 comma_same : (style : Style) (d : Draft) (lv : Level) (lvs : List Level) (left : List (List ℕ))
-    → document_from style (record d { levels = lv ∷ lvs }) ((comma ∷ []) ∷ left) ≡ document_from style (record d { levels = with_comma lv ∷ lvs }) left
+    → document_from style (record d { levels = lv ∷ lvs }) ((comma ∷ []) ∷ left) ≡ document_from style (record d { levels = level_with_comma lv ∷ lvs }) left
 unfolding document_from
 comma_same style d lv lvs left = refl
 
 -- a comma was taken
 pub comma_reads : (style : Style) (nested : Bool) (lv : Level) (s : List ℕ) (left : List (List ℕ)) (made : Line) → s ≡ comma ∷ []
-    → Stands (with_comma lv) made → ReadsOn style nested lv (s ∷ left) left made
+    → Stands (level_with_comma lv) made → ReadsOn style nested lv (s ∷ left) left made
 comma_reads style nested lv s left made e h =
     let kinds = comma_kind (lv.entry.comma || may_hold (part_end lv).last) lv in
     record {
-      level = with_comma lv;
+      level = level_with_comma lv;
       kind = kinds.0;
       opening = λ n. kinds.1;
       stands = h;
@@ -627,12 +627,12 @@ first_then style old between next left line made h e f = with_step (f h.level h.
     }
 
 statement_ends : (style : Style) (d : Draft) (lv : Level) (left : List (List ℕ))
-    → document_from style (record d { levels = lv ∷ [] }) ((line_feed ∷ []) ∷ left) ≡ document_from style (with_statement d (level_end lv).tree) left
+    → document_from style (record d { levels = lv ∷ [] }) ((line_feed ∷ []) ∷ left) ≡ document_from style (draft_with_statement d (level_end lv).tree) left
 unfolding document_from
 statement_ends style d lv left = refl
 
 text_ends : (style : Style) (d : Draft) (lv : Level)
-    → document_from style (record d { levels = lv ∷ [] }) [] ≡ document_from style (with_statement d (level_end lv).tree) []
+    → document_from style (record d { levels = lv ∷ [] }) [] ≡ document_from style (draft_with_statement d (level_end lv).tree) []
 unfolding document_from
 text_ends style d lv = refl
 
@@ -641,16 +641,16 @@ pub statement_reads : (style : Style) (old between left : List (List ℕ)) (line
     → ((between ≡ []) × (left ≡ [])) ⊎ (between ≡ (line_feed ∷ []) ∷ left) → (settled : Line) → line_end settled ≡ settled_end line
     → tree ≡ ref_tree settled.doc → ReadsStatement style old left tree
 statement_reads style old between left line tree h ends settled is trees = λ d.
-    h.same d ∙ ended d ends ∙ ap (λ (t : Tree). document_from style (with_statement d t) left) (sym whole)
+    h.same d ∙ ended d ends ∙ ap (λ (t : Tree). document_from style (draft_with_statement d t) left) (sym whole)
   where
     whole : tree ≡ (level_end h.level).tree
     whole = trees ∙ ap (λ (e : End). e.tree) (is ∙ settled_same h.level line h.stands)
 
     ended : (d : Draft) → ((between ≡ []) × (left ≡ [])) ⊎ (between ≡ (line_feed ∷ []) ∷ left)
-        → document_from style (record d { levels = h.level ∷ [] }) between ≡ document_from style (with_statement d (level_end h.level).tree) left
+        → document_from style (record d { levels = h.level ∷ [] }) between ≡ document_from style (draft_with_statement d (level_end h.level).tree) left
     ended d (inl p) =
         ap (λ (ss : List (List ℕ)). document_from style (record d { levels = h.level ∷ [] }) ss) p.0 ∙ text_ends style d h.level
-        ∙ ap (λ (ss : List (List ℕ)). document_from style (with_statement d (level_end h.level).tree) ss) (sym p.1)
+        ∙ ap (λ (ss : List (List ℕ)). document_from style (draft_with_statement d (level_end h.level).tree) ss) (sym p.1)
     ended d (inr p) =
         ap (λ (ss : List (List ℕ)). document_from style (record d { levels = h.level ∷ [] }) ss) p ∙ statement_ends style d h.level left
 

@@ -10,7 +10,7 @@ use Rattle.toml_lexemes.specs.Bytes as byte
 use Rattle.toml_grammar.specs.Sorts as sort
 use Rattle.toml_grammar.specs.Sorts.{Sort, sort_of}
 use Rattle.toml_statements.specs.Statements.{trimmed}
-use Rattle.toml_formatter.specs.Gaps.{gap_before, gap_before_comma, gap_before_remark, gap_before_close}
+use Rattle.toml_formatter.specs.Gaps.{gap_before_part, gap_before_comma, gap_before_remark, gap_before_close}
 use Rattle.toml_formatter.specs.Kinds.{kind_in, last_after_sort}
 use Rattle.toml_formatter.specs.Lines.{may_hold}
 use Rattle.toml_formatter.specs.declared.gaps.Gap.{Gap}
@@ -38,12 +38,12 @@ abbrev pub broken_if : Bool → Tree → Tree
 broken_if false x = x
 broken_if true x = append x ExpandParent
 
-abbrev pub is_line_feed : ℕ → Bool
-is_line_feed b = b == byte.line_feed
+abbrev pub is_line_feed_byte : ℕ → Bool
+is_line_feed_byte b = b == byte.line_feed
 
 -- a lexeme as it is spelled; the groups around one of several lines are not flat
 abbrev pub lexeme_tree : List ℕ → Tree
-lexeme_tree s = broken_if (list_any is_line_feed s) (counted.text s)
+lexeme_tree s = broken_if (list_any is_line_feed_byte s) (counted.text s)
 
 -- a remark without the blanks at its end, which counts no columns
 abbrev pub remark_tree : List ℕ → Tree
@@ -67,13 +67,13 @@ pub record Remarked : Type 0 where
   pub remark : List ℕ
 
 -- a part, then a comma, then remarks; each may be missing
-pub record Entry : Type 0 where
+pub record RowEntry : Type 0 where
   pub part : Option Part
   pub comma : Bool
   -- the last one first
   pub remarks : List Remarked
 
-abbrev pub no_entry : Entry
+abbrev pub no_entry : RowEntry
 no_entry = record { part = None; comma = false; remarks = [] }
 
 -- ---- the document of entries
@@ -94,12 +94,12 @@ is_some (x ∷ xs) = true
 abbrev pub after_part : Kind → End → Option Part → End
 after_part kind e None = e
 after_part kind e (Some p) =
-    record { tree = separated (gap_before kind e.last p.begins p.blank) e.tree p.tree; last = last_after_sort p.begins }
+    record { tree = separated (gap_before_part kind e.last p.begins p.blank) e.tree p.tree; last = last_after_sort p.begins }
 
 -- with a comma after it, where there is one
-abbrev pub after_comma : Bool → End → End
-after_comma false e = e
-after_comma true e =
+abbrev pub end_after_comma : Bool → End → End
+end_after_comma false e = e
+end_after_comma true e =
     record { tree = separated (gap_before_comma e.last) e.tree (counted.text (byte.comma ∷ [])); last = last.Comma }
 
 -- remarks, with the gap before them, after a part that ends so
@@ -114,9 +114,9 @@ after_remarks false remarks e = e
 after_remarks true remarks e = record { tree = append e.tree remarks; last = last.Remark }
 
 -- with the comma and the remarks of an entry after its part
-abbrev pub after_rest : Kind → Entry → End → End
+abbrev pub after_rest : Kind → RowEntry → End → End
 after_rest kind entry e =
-    after_remarks (is_some entry.remarks) (remarks_tree kind e.last entry.remarks) (after_comma entry.comma e)
+    after_remarks (is_some entry.remarks) (remarks_tree kind e.last entry.remarks) (end_after_comma entry.comma e)
 
 -- ---- levels
 
@@ -127,7 +127,7 @@ pub record Level : Type 0 where
   pub opening : List ℕ
   -- the entries before the last one
   pub before : End
-  pub entry : Entry
+  pub entry : RowEntry
   -- a line has ended since the last lexeme, and a blank line came
   pub broken : Bool
   pub blank : Bool
@@ -154,8 +154,8 @@ entry_with_comma true lv =
     record lv { before = level_end lv; entry = record { part = None; comma = true; remarks = [] }; broken = false; blank = false }
 entry_with_comma false lv = record lv { entry = record lv.entry { comma = true }; broken = false; blank = false }
 
-abbrev pub with_comma : Level → Level
-with_comma lv = entry_with_comma (lv.entry.comma || may_hold (part_end lv).last) lv
+abbrev pub level_with_comma : Level → Level
+level_with_comma lv = entry_with_comma (lv.entry.comma || may_hold (part_end lv).last) lv
 
 -- a remark is one of the last entry
 abbrev pub with_remark : Level → List ℕ → Level
@@ -254,7 +254,7 @@ levels_with style sort.open_array first lv lvs s = new_level (kind_in lv.kind fi
 levels_with style sort.open_table first lv lvs s = new_level (kind_in lv.kind first sort.open_table) s ∷ lv ∷ lvs
 levels_with style sort.close_array first lv lvs s = levels_closed style lv lvs s
 levels_with style sort.close_table first lv lvs s = levels_closed style lv lvs s
-levels_with style sort.comma first lv lvs s = with_comma lv ∷ lvs
+levels_with style sort.comma first lv lvs s = level_with_comma lv ∷ lvs
 levels_with style sort.remark first lv lvs s = with_remark lv s ∷ lvs
 levels_with style k first lv lvs s = with_part lv s (lexeme_tree s) ∷ lvs
 
@@ -287,13 +287,13 @@ lines_with false lines statement = append lines (append statement HardLine)
 lines_with true lines statement = append (append lines HardLine) (append statement HardLine)
 
 -- where the statement has ended whose document this is
-abbrev pub with_statement : Draft → Tree → Draft
-with_statement d statement = record { done = lines_with d.blank d.done statement; some = true; blank = false; levels = [] }
+abbrev pub draft_with_statement : Draft → Tree → Draft
+draft_with_statement d statement = record { done = lines_with d.blank d.done statement; some = true; blank = false; levels = [] }
 
 -- after a line end: outside of brackets it ends the statement, or is a blank line
 abbrev pub with_ended_line : Draft → List Level → Draft
 with_ended_line d [] = record d { blank = d.some; levels = [] }
-with_ended_line d (lv ∷ []) = with_statement d (level_end lv).tree
+with_ended_line d (lv ∷ []) = draft_with_statement d (level_end lv).tree
 with_ended_line d (lv ∷ outer ∷ lvs) = record d { levels = with_line_end lv ∷ outer ∷ lvs }
 
 -- after another lexeme of this sort
@@ -314,7 +314,7 @@ level_with lv (outer ∷ lvs) = level_with (with_part outer lv.opening (unclosed
 -- where the text ends with these levels
 abbrev pub ended_in : Draft → List Level → Tree
 ended_in d [] = d.done
-ended_in d (lv ∷ lvs) = (with_statement d (level_end (level_with lv lvs)).tree).done
+ended_in d (lv ∷ lvs) = (draft_with_statement d (level_end (level_with lv lvs)).tree).done
 
 -- the document, where these lexemes are left
 unfoldable pub document_from : Style → Draft → List (List ℕ) → Tree

@@ -3,8 +3,8 @@ use Rattle.std.specs.Prelude.{◌≡◌, ℕ, Bool, true, false, List, [], ◌�
 use Rattle.prettyless.specs.Tree.{Tree}
 use Rattle.prettyless.specs.Trees.{ref_tree}
 use Rattle.toml_grammar.specs.Sorts.{sort_of}
-use Rattle.toml_formatter.specs.Documents.{End, Level, Draft, after_comma, after_remarks, is_some, part_end, remarks_tree}
-use Rattle.toml_formatter.specs.Documents.{levels_with, with_part, with_statement, document_from}
+use Rattle.toml_formatter.specs.Documents.{End, Level, Draft, end_after_comma, after_remarks, is_some, part_end, remarks_tree}
+use Rattle.toml_formatter.specs.Documents.{levels_with, with_part, draft_with_statement, document_from}
 use Rattle.toml_formatter.specs.declared.kind.Kind.{Kind}
 use Rattle.toml_formatter.specs.declared.kind.Kind.TheVariants.{Statement}
 use Rattle.toml_formatter.specs.declared.line.Line.{Line}
@@ -18,7 +18,7 @@ line_end line = record { tree = ref_tree line.doc; last = line.last }
 
 -- the same with what waits
 abbrev pub settled_end : Line → End
-settled_end line = after_remarks line.is_remarked (ref_tree line.remarks) (after_comma line.comma (line_end line))
+settled_end line = after_remarks line.is_remarked (ref_tree line.remarks) (end_after_comma line.comma (line_end line))
 
 -- The line is at this level: what waits in it is the comma and the remarks of the level's last entry.
 pub record Stands (lv : Level) (line : Line) : Type 0 where
@@ -65,4 +65,4 @@ pub record ReadsFirst (style : Style) (old new : List (List ℕ)) (line : Line) 
 -- the same where a statement was taken, with its line end
 abbrev pub ReadsStatement : Style → List (List ℕ) → List (List ℕ) → Tree → Type 0
 ReadsStatement style old new tree =
-    (d : Draft) → document_from style (record d { levels = [] }) old ≡ document_from style (with_statement d tree) new
+    (d : Draft) → document_from style (record d { levels = [] }) old ≡ document_from style (draft_with_statement d tree) new

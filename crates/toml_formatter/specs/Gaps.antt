@@ -94,19 +94,19 @@ edge_gap Table = Space
 edge_gap Array = Edge
 
 -- before a lexeme of this sort of the same key or value
-abbrev pub gap_between : Last → Sort → Gap
-gap_between Equals s = Space
-gap_between l sort.equals = Space
-gap_between Word sort.word = Space
-gap_between String sort.string = Space
-gap_between l s = Nothing
+abbrev pub gap_on_line : Last → Sort → Gap
+gap_on_line Equals s = Space
+gap_on_line l sort.equals = Space
+gap_on_line Word sort.word = Space
+gap_on_line String sort.string = Space
+gap_on_line l s = Nothing
 
 -- before a lexeme of this sort that begins a value or goes on with one
-abbrev pub gap_before : Kind → Last → Sort → Bool → Gap
-gap_before kind Start s blank = edge_gap kind
-gap_before kind Comma s blank = gap_after_comma kind blank
-gap_before kind Remark s blank = line_break blank
-gap_before kind l s blank = gap_between l s
+abbrev pub gap_before_part : Kind → Last → Sort → Bool → Gap
+gap_before_part kind Start s blank = edge_gap kind
+gap_before_part kind Comma s blank = gap_after_comma kind blank
+gap_before_part kind Remark s blank = line_break blank
+gap_before_part kind l s blank = gap_on_line l s
 
 -- before a comma
 abbrev pub gap_before_comma : Last → Gap

@@ -65,7 +65,7 @@ fn between(last: Last, next: Lexeme<'_>) -> Gap
     requires no_remark { is_last_remark last ≡ false }
     ensures enough { more (least_needed last (head (toml_text_of next.entry))) (least_of result) ≡ least_of result }
     ensures stays { stays result ≡ true }
-    ensures gap { result ≡ spec.gap_between last (sort_for next.entry) }
+    ensures gap { result ≡ spec.gap_on_line last (sort_for next.entry) }
 {
     match (last, next) {
         (_, Lexeme::Equals) | (Last::Equals, _) => Gap::Space,
@@ -79,7 +79,7 @@ pub(crate) fn before(kind: Kind, last: Last, next: Lexeme<'_>, blank: bool) -> G
     requires named { HasTomlKind next }
     requires goes_on { is_nested kind ≡ false → is_last_remark last ≡ false }
     ensures suits { Suits (is_nested kind) last (head (toml_text_of next.entry)) result }
-    ensures gap { result ≡ spec.gap_before kind last (sort_for next.entry) blank }
+    ensures gap { result ≡ spec.gap_before_part kind last (sort_for next.entry) blank }
 {
     match last {
         Last::Start => edge(kind),

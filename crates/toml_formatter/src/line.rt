@@ -7,7 +7,7 @@ ghost use Rattle.toml_statements.specs.Statements.{role, trimmed, a_closing};
 ghost use Rattle.toml_statements.specs.Shown.{IsWholeLexeme};
 ghost use Rattle.toml_formatter.specs.Gaps.{is_nested, is_last_remark};
 ghost use Rattle.toml_formatter.specs.Documents as document;
-ghost use Rattle.toml_formatter.specs.Documents.{Level, after_comma, after_remarks, closed_end, comma_kept, ends_item, is_array};
+ghost use Rattle.toml_formatter.specs.Documents.{Level, end_after_comma, after_remarks, closed_end, comma_kept, ends_item, is_array};
 ghost use Rattle.toml_formatter.specs.Drafts.{Stands, line_end, settled_end};
 ghost use Rattle.toml_formatter.specs.Kinds.{last_after, IsPart};
 ghost use Rattle.toml_formatter.specs.declared.kind.Kind.{Kind};
@@ -91,7 +91,7 @@ impl<'a> Line<'a> {
         ensures no_comma { IfOk result (λ line. line.comma ≡ false) }
         ensures remarked { IfOk result (λ line. line.is_remarked ≡ self.entry.is_remarked) }
         ensures last { IfOk result (λ line. is_last_remark self.entry.last ≡ false → is_last_remark line.last ≡ false) }
-        ensures end { IfOk result (λ line. line_end line ≡ after_comma self.entry.comma (line_end self.entry)) }
+        ensures end { IfOk result (λ line. line_end line ≡ end_after_comma self.entry.comma (line_end self.entry)) }
         ensures remarks { IfOk result (λ line. line.remarks ≡ self.entry.remarks) }
         ensures blank { IfOk result (λ line. line.blank ≡ self.entry.blank) }
     {
@@ -178,7 +178,7 @@ impl<'a> Line<'a> {
             → ShowsTaken nested true self.entry ((comma ∷ []) ∷ left) taken
             → ShowsTaken nested true line left (taken ++ (comma ∷ []) ∷ [])) }
         ensures goes_on { IfOk result (λ line. (nested : Bool) → TakesMore nested self.entry → TakesMore nested line) }
-        ensures stands { IfOk result (λ line. (lv : Level) → Stands lv self.entry → Stands (document.with_comma lv) line) }
+        ensures stands { IfOk result (λ line. (lv : Level) → Stands lv self.entry → Stands (document.level_with_comma lv) line) }
     {
         if self.settles() {
             return Ok(self.settled(arena)?.with_waiting_comma());

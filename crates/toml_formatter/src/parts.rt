@@ -9,7 +9,7 @@ ghost use Rattle.prettyless_model.specs.Shows.{Mark, loose, shows};
 ghost use Rattle.prettyless_shapes.specs.Items.{ShowsBoth, ShowsMore, ShowsSame};
 ghost use Rattle.prettyless_shapes.specs.Shown.{text_items};
 ghost use Rattle.toml_lexemes.specs.Bytes.{comma};
-ghost use Rattle.toml_formatter.specs.Documents.{broken_if, is_line_feed, lexeme_tree, separated};
+ghost use Rattle.toml_formatter.specs.Documents.{broken_if, is_line_feed_byte, lexeme_tree, separated};
 ghost use Rattle.toml_formatter.specs.Gaps.{gap_items};
 
 use crate::gaps::Gap;
@@ -56,7 +56,7 @@ pub(crate) fn remark_text<'a, D: DocPlace<'a>>(
 
 /// Whether a line ends in the text.
 fn has_lines(text: &str) -> bool
-    ensures { result ≡ list_any is_line_feed text.now }
+    ensures { result ≡ list_any is_line_feed_byte text.now }
 {
     text.as_bytes().iter().any(|byte| *byte == b'\n')
 }

@@ -1,7 +1,7 @@
 use Rattle.std.proofs.Common.{sym, ap, Bool}
 use Rattle.prettyless.specs.Trees.{ref_tree}
 use Rattle.toml_lexemes.specs.Bytes.{comma}
-use Rattle.toml_formatter.specs.Documents.{after_comma}
+use Rattle.toml_formatter.specs.Documents.{end_after_comma}
 use Rattle.toml_formatter.specs.Drafts.{line_end}
 use Rattle.toml_formatter.specs.Gaps.{Suits}
 use Rattle.toml_formatter.proofs.DraftLemmas.{comma_end}
@@ -18,7 +18,7 @@ returns-clause-line c = λ nested exact left taken goes_on h.
     c.in_ok-doc.ensures.items suits h
 
 pub returns-then-not-self-clause-end : goal.returns-then-not-self-clause-end
-returns-then-not-self-clause-end c = ap (λ (b : Bool). after_comma b (line_end c.args.self)) (sym c.if-not-self.true)
+returns-then-not-self-clause-end c = ap (λ (b : Bool). end_after_comma b (line_end c.args.self)) (sym c.if-not-self.true)
 
 pub returns-clause-end : goal.returns-clause-end
 returns-clause-end c =
