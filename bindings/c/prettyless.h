@@ -189,9 +189,9 @@ uint32_t prettyless_layout(const uint8_t *program, size_t length, size_t width, 
    it is past the limit. So give one where a text comes from someone else: see "Limits" in docs/BINDINGS.md.
 
    After PL_NOT_JSON, *line and *column say where the token begins that is wrong, in a string where the escape or
-   control character does or the line ends before a closing quote, or where the first bytes are that are not UTF-8
-   (both from 1; a column is a character). Then out[0..*written) is the name of what was expected there, as far as
-   there is room: a name has fewer than 100 bytes.
+   control character does or the line or the text ends before a closing quote, or where the first bytes are that are
+   not UTF-8 (both from 1; a column is a character). Then out[0..*written) is the name of what was expected there, as
+   far as there is room: a name has fewer than 100 bytes.
    After other statuses *line and *column are 0.
 
    No pointer may be null, also for a length or a capacity of 0. The areas of text, out, written, line and column may

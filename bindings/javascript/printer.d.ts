@@ -157,7 +157,7 @@ export declare class MemoryError extends YezhguloError {}
 
 declare class TextError extends YezhguloError {
     constructor(line: number, column: number, expected: string);
-    /** Where the token begins that is wrong, both from 1; a column is a character. */
+    /** Where the token begins that is wrong, or in a JSON string the part; both from 1; a column is a character. */
     readonly line: number;
     readonly column: number;
     /** What was expected there. */

@@ -78,8 +78,8 @@ class JsonError(_TextError):
     """The text is not JSON, or is more than 100,000 levels deep.
 
     `line` and `column` say where the token begins that is wrong, and in a string where the escape or the control
-    character does, or the line ends before its closing quote, both from 1; a column is a character. `expected` is
-    what was expected there.
+    character does, or the line or the text ends before its closing quote, both from 1; a column is a character.
+    `expected` is what was expected there.
 
     >>> print(JsonError(2, 4, "`,` or `]`"))
     line 2, column 4: expected `,` or `]`
