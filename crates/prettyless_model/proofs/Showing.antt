@@ -1,7 +1,9 @@
 -- Whole layouts show what their documents show. Before each text is a gap; part of it may be written already, and part of it
 -- may be spaces that wait. Late items wait with the documents that are pending.
-use Rattle.std.proofs.Common.{◌≡◌, ℕ, zero, suc, List, [], ◌∷◌, ◌++◌, ◌+◌, ◌<◌, length, length-append, arith, map, refl, subst, ap, sym}
-use Rattle.std.proofs.Common.{◌∙◌, append_assoc, append-nil, ◌⊎◌, inl, inr, Bool, true, false, ◌&&◌, nat_le, if◌then◌else◌}
+use Rattle.std.proofs.Common.{◌≡◌, ℕ, zero, suc, List, [], ◌∷◌, ◌++◌, ◌+◌, ◌<◌, length, length-append, arith}
+use Rattle.std.proofs.Common.{map, refl, subst, ap, sym}
+use Rattle.std.proofs.Common.{◌∙◌, append_assoc, append-nil, ◌⊎◌, inl, inr, Bool, true, false, ◌&&◌, nat_le}
+use Rattle.std.proofs.Common.{if◌then◌else◌}
 use Rattle.std.specs.Prelude.{⊤}
 use Rattle.prettyless_model.specs.Options.{ending}
 use Rattle.prettyless_model.specs.Spaces.{spaces}
@@ -42,7 +44,8 @@ use Rattle.prettyless_model.proofs.Outcomes.{holds-either, holds-accept}
 -- the documents show these items, one after the other, and none of them is late
 abbrev pub AllShow : List Tree → List Item → Type 0
 AllShow [] ws = ws ≡ []
-AllShow (d ∷ ds) ws = (first : List Item) × (rest : List Item) × shows d first × NoneIsLate first × AllShow ds rest × (ws ≡ first ++ rest)
+AllShow (d ∷ ds) ws = (first : List Item) × (rest : List Item) × shows d first × NoneIsLate first × AllShow ds rest × (ws
+    ≡ first ++ rest)
 
 none_late_both : (xs ys : List Item) → NoneIsLate xs → NoneIsLate ys → NoneIsLate (xs ++ ys)
 none_late_both [] ys h k = k
@@ -77,7 +80,8 @@ pub record StandsIn (p : Place) (ws : List Item) (g : List ℕ) (st : State) : T
   pub stands : Stands p ws g st.column
 
 -- what shows more items from the place q on, after its gap h, shows these and then those from the place p on, after g and b
-pub record Joins (p : Place) (ws : List Item) (g b : List ℕ) (items : List Item) (q : Place) (vs : List Item) (h : List ℕ) : Type 0 where
+pub record Joins (p : Place) (ws : List Item) (g b : List ℕ) (items : List Item) (q : Place) (vs : List Item)
+    (h : List ℕ) : Type 0 where
   pub shows_all : (c : List ℕ) (later : List Item) → ShowsFrom q vs (h ++ c) later → ShowsFrom p ws (g ++ (b ++ c)) (items ++ later)
 
 -- After a gap so far, where such items wait, the bytes of an outcome show the items, up to another gap so far, where others
@@ -101,7 +105,8 @@ spaced_follows p [] g b st e within same w s = (
   g ++ b,
   record { waits = w; stands = s },
   record {
-    shows_all = λ c later k. rw same (subst (λ (x : List ℕ). ShowsFrom (with_gap SameLine Spacing p) [] x later) (append_assoc g b c) k);
+    shows_all = λ c later k. rw same (subst (λ (x : List ℕ). ShowsFrom (with_gap SameLine Spacing p) [] x later)
+        (append_assoc g b c) k);
   },
 )
 spaced_follows p (v ∷ vs) g b st e within same w s = (
@@ -176,7 +181,8 @@ text_follows o w (b ∷ bs) items {st} {p} {ws} {g} (inr h) s =
 payload_column : (m : Metrics) → m.last_nonempty ≡ true → after_payload m ≡ commit m.last_width start
 payload_column m e = ap (λ (x : Bool). if x then commit m.last_width start else start) e
 
-payload_follows : (o : RenderOptions) (m : Metrics) (s : List ℕ) (items : List Item) {st : State} {p : Place} {ws : List Item} {g : List ℕ}
+payload_follows : (o : RenderOptions) (m : Metrics) (s : List ℕ)
+    (items : List Item) {st : State} {p : Place} {ws : List Item} {g : List ℕ}
     → PayloadShows m s items → StandsIn p ws g st → Follows p ws g items (lay_payload o m s st)
 payload_follows o m s items {st} {p} {ws} {g} h k =
     let column = payload_column m h.2 in
@@ -221,7 +227,8 @@ plain_follows : (o : RenderOptions) (d : Tree) (i : ℕ) (rest : List Entry) {st
     → Follows p [] g (ended ∷ []) (plain_break o d i rest st)
 plain_follows o d i rest {st} {p} {g} s =
     let blank_gap = stands_blank p [] g st.column s.stands in
-    either_follows p [] g (ended ∷ []) (is_suppressed d st.column) (Done [] st) (lay_ending o o.indentation_policy (next_indent i rest) st)
+    either_follows p [] g (ended ∷ []) (is_suppressed d st.column) (Done [] st) (lay_ending o o.indentation_policy
+    (next_indent i rest) st)
     (λ e. ended_follows p g [] st st.column s.waits
     (subst (λ (x : List ℕ). Stands (with_gap AnyLine LineEnd p) [] x st.column) (sym (append-nil g))
     (ended_stands p g st.column blank_gap (fresh_ended p [] g st.column (suppressed_fresh d st.column e) s.stands))))
@@ -267,7 +274,8 @@ gap_then p ws g n items (Done b st) f = (
 gap_then p ws g n items (Failed b) f = tt
 
 -- what implies more
-implied_follows : (p : Place) (ws : List Item) (g : List ℕ) (xs items : List Item) (o : Outcome) → Implies xs items → Follows p ws g xs o
+implied_follows : (p : Place) (ws : List Item) (g : List ℕ) (xs items : List Item) (o : Outcome) → Implies xs items
+    → Follows p ws g xs o
     → Follows p ws g items o
 implied_follows p ws g xs items (Done b st) i f = (
   f.0,
@@ -345,7 +353,8 @@ put_off p g i is st pending w s (inr stays) = (
   },
 )
 
-suffix_follows : {p : Place} (ws : List Item) {g : List ℕ} (inner : List Item) {items : List Item} (d : Tree) {st : State} → shows d inner
+suffix_follows : {p : Place} (ws : List Item) {g : List ℕ} (inner : List Item) {items : List Item} (d : Tree) {st : State}
+    → shows d inner
     → NoneIsLate inner → items ≡ map Late inner → StandsIn p ws g st
     → Follows p ws g items (Done [] (record st { pending = st.pending ++ d ∷ [] }))
 suffix_follows [] [] d {st} h n e s =
@@ -487,7 +496,8 @@ line_ended AnyLine LineEnd = refl
 -- late items come after a text, or so it is taken
 shown_late : (p : Place) (later : List ℕ → Type 0) (more : List Item)
     → ((r : Reach) (l : Least) (rest : List ℕ) → ShowsFrom (After r l) [] rest more → later rest)
-    → (ws : List Item) (b : List ℕ) → NoneIsLate ws → ShowsFrom (late_place p) [] b (ws ++ more) → ShowsThen (late_place p) b ws later
+    → (ws : List Item) (b : List ℕ) → NoneIsLate ws → ShowsFrom (late_place p) [] b (ws ++ more)
+    → ShowsThen (late_place p) b ws later
 shown_late (Before r) later more k ws b n h = shown_then later more k ws SameLine Nothing b n h
 shown_late (After NoGap l) later more k ws b n h = shown_then later more k ws NoGap l b n h
 shown_late (After SameLine l) later more k ws b n h = shown_then later more k ws SameLine l b n h
@@ -567,7 +577,8 @@ ends-after : {p : Place} {ws : List Item} {g b : List ℕ} {before : List Item} 
 ends-after (Done a st) k e = k.shows_all a [] e
 ends-after (Failed a) k e = tt
 
-ends-then : (p : Place) (ws : List Item) (g : List ℕ) (before : List Item) (o : Outcome) (f : State → Outcome) → Follows p ws g before o
+ends-then : (p : Place) (ws : List Item) (g : List ℕ) (before : List Item) (o : Outcome) (f : State → Outcome)
+    → Follows p ws g before o
     → EndsAlways f → EndsWith p ws g (before ++ []) (and_then o f)
 ends-then p ws g before (Done b st) f h k = ends-after (f st) h.4 (k h.0 h.1 h.2 st h.3)
 ends-then p ws g before (Failed b) f h k = tt
@@ -583,7 +594,8 @@ late_ends p w ws g n (Done b st) none e =
     (subst (λ (x : List ℕ). ShowsFrom (late_place p) [] x ((w ∷ ws) ++ [])) (append_assoc g n b) e)
 late_ends p w ws g n (Failed b) none e = tt
 
-end_shows : (o : RenderOptions) {brk : Breaks} (again : State → Outcome) → EndLines brk → EndsAlways again → (ps : List Tree) {st : State}
+end_shows : (o : RenderOptions) {brk : Breaks} (again : State → Outcome) → EndLines brk → EndsAlways again
+    → (ps : List Tree) {st : State}
     {p : Place} (ws : List Item) {g : List ℕ} → AllShow ps ws → StandsIn p ws g st → EndsWith p ws g [] (end_with o brk again ps st)
 end_shows o again k f [] {st} {p} [] {g} h s =
     end_stands p (g ++ []) st.column (subst (λ (x : List ℕ). Stands p [] x st.column) (sym (append-nil g)) s.stands)
@@ -615,12 +627,14 @@ by_ends o n d items h =
     (record { waits = refl; stands = (refl, tt, (refl, refl, refl)) }))
     (finish_ends o (breaks_end_lines o n) n)
 
-whole_shown : (x : Outcome) (items : List Item) (b : List ℕ) → EndsWith at_start [] [] items x → bytes_of x ≡ Whole b → AreShown b items
+whole_shown : (x : Outcome) (items : List Item) (b : List ℕ) → EndsWith at_start [] [] items x → bytes_of x ≡ Whole b
+    → AreShown b items
 whole_shown (Done a st) items b h e = let same : a ≡ b = cc in rw same at h
 whole_shown (Failed a) items b h e = absurd (cc)
 
 -- a whole layout shows what its document shows
-pub layout_shows : (o : RenderOptions) (d : Tree) (b : List ℕ) (items : List Item) → shows d items → layout o d ≡ Whole b → AreShown b items
+pub layout_shows : (o : RenderOptions) (d : Tree) (b : List ℕ) (items : List Item) → shows d items → layout o d ≡ Whole b
+    → AreShown b items
 unfolding layout
 layout_shows o d b items h e =
     whole_shown (layout_by o (size d + 1) d) items b

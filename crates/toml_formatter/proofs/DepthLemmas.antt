@@ -1,5 +1,7 @@
 -- How deep brackets are, while lexemes are taken.
-use Rattle.std.proofs.Common.{◌≡◌, refl, sym, ◌∙◌, ap, subst, inl, inr, Result, Ok, Err, ℕ, ◌+◌, ◌-◌, ◌≤◌, ◌||◌, true, false, List, [], ◌∷◌, ltb, arith}
+use Rattle.std.proofs.Common.{◌≡◌, refl, sym, ◌∙◌, ap, subst, inl, inr, Result, Ok, Err, ℕ, ◌+◌, ◌-◌, ◌≤◌}
+use Rattle.std.proofs.Common.{◌||◌, true, false, List, []}
+use Rattle.std.proofs.Common.{◌∷◌, ltb, arith}
 use Rattle.std.specs.Result.{IfErr, IsErrAnd}
 use Rattle.toml_lexemes.specs.Bytes.{line_feed}
 use Rattle.toml_lexemes.specs.Lexemes.{toml_lexemes_of}
@@ -58,7 +60,8 @@ plain_depth (lexeme.Word s) named e f n = word_depth s.now named n
 -- ---- what is taken
 
 -- a lexeme that is no bracket is within any depth
-pub plain_within : (x : Lexeme) → HasTomlKind x → is_opening x ≡ false → is_closing x ≡ false → (depth : ℕ) (ss : List (List ℕ))
+pub plain_within : (x : Lexeme) → HasTomlKind x → is_opening x ≡ false → is_closing x ≡ false
+    → (depth : ℕ) (ss : List (List ℕ))
     → TakesWithin depth (toml_text_of x ∷ ss) ss
 plain_within x named e f depth ss n h = depth_step (toml_text_of x) ss n n (plain_depth x named e f n) (omega (arith, h))
 
@@ -80,20 +83,23 @@ part_within x named part e depth ss = plain_within x named e (no_closing x part)
     no_closing (lexeme.Word s) part = refl
 
 -- outside of brackets a closing one closes none
-pub closing_within : (x : Lexeme) → is_closing x ≡ true → (ss : List (List ℕ)) → TakesWithin max_brackets (toml_text_of x ∷ ss) ss
+pub closing_within : (x : Lexeme) → is_closing x ≡ true → (ss : List (List ℕ))
+    → TakesWithin max_brackets (toml_text_of x ∷ ss) ss
 closing_within x e ss n h =
     let same : n - 1 ≡ n = omega (arith, h) in
     depth_step (toml_text_of x) ss n n (closing_depth x e n ∙ same) (omega (arith, h))
 
 -- in brackets so many are open more, where one less may be
-opened : (x : Lexeme) → is_opening x ≡ true → (depth : ℕ) → 1 ≤ depth → (ss : List (List ℕ)) (n : ℕ) → n + depth ≡ max_brackets
+opened : (x : Lexeme) → is_opening x ≡ true → (depth : ℕ) → 1 ≤ depth → (ss : List (List ℕ)) (n : ℕ)
+    → n + depth ≡ max_brackets
     → nest_too_deep n (toml_text_of x ∷ ss) ≡ nest_too_deep (n + 1) ss
 opened x e depth some ss n h =
     depth_step (toml_text_of x) ss n (n + 1) (opening_depth x e n) (omega (arith, h, some))
 
 -- a list in whose brackets one less may be open
 pub list_within : (x : Lexeme) → is_opening x ≡ true → (y : Lexeme) → is_closing y ≡ true → (depth : ℕ) → 1 ≤ depth
-    → (old left : List (List ℕ)) → TakesWithin (depth - 1) old (toml_text_of y ∷ left) → TakesWithin depth (toml_text_of x ∷ old) left
+    → (old left : List (List ℕ)) → TakesWithin (depth - 1) old (toml_text_of y ∷ left)
+    → TakesWithin depth (toml_text_of x ∷ old) left
 list_within x o y c depth some old left inside n h =
     let back : n + 1 - 1 ≡ n = omega arith in
     let deeper : n + 1 + (depth - 1) ≡ max_brackets = omega (arith, h, some) in
@@ -105,8 +111,10 @@ rest_of [] = []
 rest_of (s ∷ ss) = ss
 
 -- the same, where what comes next is known to close it
-pub closed_within : (x : Lexeme) → is_opening x ≡ true → (depth : ℕ) → 1 ≤ depth → (old : List (List ℕ)) {ss : List (List ℕ)} (s : List ℕ)
-    (left : List (List ℕ)) → ss ≡ s ∷ left → ClosesNext ss → TakesWithin (depth - 1) old ss → TakesWithin depth (toml_text_of x ∷ old) left
+pub closed_within : (x : Lexeme) → is_opening x ≡ true → (depth : ℕ) → 1 ≤ depth
+    → (old : List (List ℕ)) {ss : List (List ℕ)} (s : List ℕ)
+    (left : List (List ℕ)) → ss ≡ s ∷ left → ClosesNext ss → TakesWithin (depth - 1) old ss
+    → TakesWithin depth (toml_text_of x ∷ old) left
 unfolding rest_of
 closed_within x o depth some old s left is (inl e) inside = absurd (cc)
 closed_within x o depth some old s left is (inr (y, rest, e, c)) inside = λ n h.
@@ -114,7 +122,8 @@ closed_within x o depth some old s left is (inr (y, rest, e, c)) inside = λ n h
     ∙ ap (λ ss. nest_too_deep n ss) (ap rest_of (sym e ∙ is))
 
 -- a list that the text ends in
-pub ended_within : (x : Lexeme) → is_opening x ≡ true → (depth : ℕ) → 1 ≤ depth → (old : List (List ℕ)) {ss left : List (List ℕ)} → ss ≡ []
+pub ended_within : (x : Lexeme) → is_opening x ≡ true → (depth : ℕ) → 1 ≤ depth
+    → (old : List (List ℕ)) {ss left : List (List ℕ)} → ss ≡ []
     → left ≡ [] → TakesWithin (depth - 1) old ss → TakesWithin depth (toml_text_of x ∷ old) left
 ended_within x o depth some old is none inside = λ n h.
     let deeper : n + 1 + (depth - 1) ≡ max_brackets = omega (arith, h, some) in
@@ -126,14 +135,17 @@ pub line_end_within : (ss : List (List ℕ)) → TakesWithin max_brackets ((line
 line_end_within ss n h = depth_step (line_feed ∷ []) ss n n refl (omega (arith, h))
 
 -- lexemes, and then more
-pub next_within : (depth : ℕ) (old left : List (List ℕ)) {between next : List (List ℕ)} → TakesWithin depth old between → between ≡ next
+pub next_within : (depth : ℕ) (old left : List (List ℕ)) {between next : List (List ℕ)} → TakesWithin depth old between
+    → between ≡ next
     → TakesWithin depth next left → TakesWithin depth old left
 next_within depth old left f e g n h = f n h ∙ ap (λ ss. nest_too_deep n ss) e ∙ g n h
 
 -- ---- refusals
 
 -- what a `?` returns that passes an error on
-pub passed_on : {T : Type 0} (P : FormatError → Type 0) (r : Result T FormatError) (e : FormatError) → IsErrAnd r (λ y. y ≡ e) → P e → IfErr r P
+pub passed_on : {T : Type 0} (P : FormatError → Type 0) (r : Result T FormatError) (e : FormatError) → IsErrAnd r (λ y. y ≡ e)
+    → P e
+    → IfErr r P
 passed_on P (Ok x) e h p = tt
 passed_on P (Err y) e h p = subst P (sym h) p
 
@@ -157,7 +169,8 @@ memory_of text LayoutNotToml h = absurd h
 memory_of text (Memory x) h = tt
 
 -- no bracket may be open, and one more is
-pub bracket_refused : (x : Lexeme) → is_opening x ≡ true → (ss : List (List ℕ)) → IsRefusalWithin 0 (toml_text_of x ∷ ss) TooDeep
+pub bracket_refused : (x : Lexeme) → is_opening x ≡ true → (ss : List (List ℕ))
+    → IsRefusalWithin 0 (toml_text_of x ∷ ss) TooDeep
 bracket_refused x o ss n h =
     let full : n ≡ 128 = omega (arith, h) in
     ap (λ k. ltb max_brackets k || nest_too_deep k ss) (opening_depth x o n ∙ ap (λ k. k + 1) full)
@@ -173,7 +186,8 @@ list_refused x o depth some old LayoutNotToml h = absurd h
 list_refused x o depth some old (Memory y) h = tt
 
 -- what comes after these lexemes is refused
-pub refused_after : (depth : ℕ) (old : List (List ℕ)) {between next : List (List ℕ)} (e : FormatError) → TakesWithin depth old between
+pub refused_after : (depth : ℕ) (old : List (List ℕ)) {between next : List (List ℕ)} (e : FormatError)
+    → TakesWithin depth old between
     → between ≡ next → IsRefusalWithin depth next e → IsRefusalWithin depth old e
 refused_after depth old NotToml f is h = absurd h
 refused_after depth old TooDeep f is h = λ n e. f n e ∙ ap (λ ss. nest_too_deep n ss) is ∙ h n e
@@ -181,7 +195,8 @@ refused_after depth old LayoutNotToml f is h = absurd h
 refused_after depth old (Memory x) f is h = tt
 
 -- a text of which the lexemes that are left are refused
-pub text_refused : (text : List ℕ) {between next : List (List ℕ)} (e : FormatError) → TakesWithin max_brackets (toml_lexemes_of text) between
+pub text_refused : (text : List ℕ) {between next : List (List ℕ)} (e : FormatError)
+    → TakesWithin max_brackets (toml_lexemes_of text) between
     → between ≡ next → IsRefusalWithin max_brackets next e → IsRefusalOf text e
 text_refused text NotToml f is h = absurd h
 text_refused text TooDeep f is h = f 0 refl ∙ ap (λ ss. nest_too_deep 0 ss) is ∙ h 0 refl

@@ -1,5 +1,7 @@
 -- What the code's lines and documents are to the definition, step by step.
-use Rattle.std.proofs.Common.{◌≡◌, refl, sym, ◌∙◌, ap, subst, inl, inr, Bor, ◌⊎◌, ℕ, Bool, true, false, cond, ◌&&◌, ◌||◌, ◌==◌, List, [], ◌∷◌}
+use Rattle.std.proofs.Common.{◌≡◌, refl, sym, ◌∙◌, ap, subst, inl, inr, Bor, ◌⊎◌, ℕ, Bool, true, false, cond}
+use Rattle.std.proofs.Common.{◌&&◌, ◌||◌, ◌==◌, List, []}
+use Rattle.std.proofs.Common.{◌∷◌}
 use Rattle.std.proofs.lemmas.Bool.{or_parts}
 use Rattle.prettyless.specs.Built.{append}
 use Rattle.prettyless.specs.Counted as counted
@@ -14,10 +16,12 @@ use Rattle.toml_grammar.specs.Sorts as sort
 use Rattle.toml_grammar.specs.Sorts.{Sort, sort_of}
 use Rattle.toml_grammar.proofs.Allowed.{sort_remark, sort_string}
 use Rattle.toml_statements.specs.Statements.{trimmed}
-use Rattle.toml_formatter.specs.Documents.{end_after_comma, after_remarks, after_rest, closed_end, comma_kept, document_from, Draft, End, ends_item}
+use Rattle.toml_formatter.specs.Documents.{end_after_comma, after_remarks, after_rest, closed_end, comma_kept, document_from, Draft, End}
+use Rattle.toml_formatter.specs.Documents.{ends_item}
 use Rattle.toml_formatter.specs.Documents.{entry_with_comma, is_array, is_some, Level, level_end, levels_with, lexeme_tree, list_tree}
 use Rattle.toml_formatter.specs.Documents.{new_level, new_statement, part_end, Remarked, remark_tree, remarks_tree, separated, trailed_end}
-use Rattle.toml_formatter.specs.Documents.{draft_with, unclosed_tree, level_with_comma, with_line_end, with_part, with_remark, draft_with_statement}
+use Rattle.toml_formatter.specs.Documents.{draft_with, unclosed_tree, level_with_comma, with_line_end, with_part, with_remark}
+use Rattle.toml_formatter.specs.Documents.{draft_with_statement}
 use Rattle.toml_formatter.specs.Drafts.{AreAround, line_end, ReadsFirst, ReadsOn, ReadsPart, ReadsStatement, settled_end, Stands}
 use Rattle.toml_formatter.specs.Gaps.{gap_before_part, gap_before_comma, gap_before_remark}
 use Rattle.toml_formatter.specs.Kinds.{is_closing, is_opening, IsPart, kind_in, last_after, last_after_sort, sort_for}
@@ -93,7 +97,8 @@ list_part (lexeme.Remark s) e n p q = absurd (q s refl)
 
 -- ---- what waits
 
-pub new_stands : (doc : RefDoc) (kind : Kind) (opening : List ℕ) → ref_tree doc ≡ Nil → Stands (new_level kind opening) (begun doc last.Start)
+pub new_stands : (doc : RefDoc) (kind : Kind) (opening : List ℕ) → ref_tree doc ≡ Nil
+    → Stands (new_level kind opening) (begun doc last.Start)
 new_stands doc kind opening e = record {
   end = λ i. record { tree = e i; last = last.Start };
   comma = refl;
@@ -115,7 +120,8 @@ line_end_stands lv line h = record {
 }
 
 -- the comma that waits in its place
-pub comma_end : (line : Line) (doc : RefDoc) (x : Tree) (g : Gap) → line.comma ≡ true → ref_tree doc ≡ separated g (ref_tree line.doc) x
+pub comma_end : (line : Line) (doc : RefDoc) (x : Tree) (g : Gap) → line.comma ≡ true
+    → ref_tree doc ≡ separated g (ref_tree line.doc) x
     → g ≡ gap_before_comma line.last → x ≡ counted.text (comma ∷ [])
     → line_end (record line { doc = doc; last = last.Comma; comma = false }) ≡ end_after_comma line.comma (line_end line)
 comma_end line doc x g waits made gap is =
@@ -126,7 +132,8 @@ comma_end line doc x g waits made gap is =
     all ∙ ap (λ (b : Bool). end_after_comma b (line_end line)) (sym waits)
 
 -- the remarks that wait in their place
-pub remarks_end : (line : Line) (doc : RefDoc) → line.is_remarked ≡ true → ref_tree doc ≡ append (ref_tree line.doc) (ref_tree line.remarks)
+pub remarks_end : (line : Line) (doc : RefDoc) → line.is_remarked ≡ true
+    → ref_tree doc ≡ append (ref_tree line.doc) (ref_tree line.remarks)
     → line_end (record line { doc = doc; last = last.Remark; is_remarked = false })
     ≡ after_remarks line.is_remarked (ref_tree line.remarks) (line_end line)
 remarks_end line doc waits made =
@@ -145,7 +152,8 @@ pub settled_as : (lv : Level) (line : Line) (b c : Bool) → Stands lv line → 
 settled_as lv line b c h same =
     let rs = lv.entry.remarks in
     let l = (part_end lv).last in
-    after_same line.is_remarked (is_some rs) (ref_tree line.remarks) (remarks_tree lv.kind l rs) (end_after_comma b (line_end line)) h.remarked
+    after_same line.is_remarked (is_some rs) (ref_tree line.remarks) (remarks_tree lv.kind l rs) (end_after_comma b
+    (line_end line)) h.remarked
     (λ e. h.remarks e ∙ ap (λ (x : End). remarks_tree lv.kind x.last rs) h.end)
     ∙ (λ i. after_remarks (is_some rs) (remarks_tree lv.kind l rs) (end_after_comma (same i) (h.end i)))
 
@@ -209,7 +217,8 @@ pub first_remarks : (lv : Level) (line : Line) (nil : Tree) → Stands lv line �
 first_remarks lv line nil h none e = e ∙ no_remarks_tree lv.kind line.last lv.entry.remarks (sym h.remarked ∙ none)
 
 -- one remark more
-pub remark_stands : (lv : Level) (line : Line) (kind : Kind) (s : List ℕ) (g : Gap) (front x : Tree) (doc : RefDoc) → lv.kind ≡ kind → Stands lv line
+pub remark_stands : (lv : Level) (line : Line) (kind : Kind) (s : List ℕ) (g : Gap) (front x : Tree) (doc : RefDoc) → lv.kind ≡ kind
+    → Stands lv line
     → g ≡ gap_before_remark kind line.last line.is_remarked line.broken line.blank
     → front ≡ remarks_tree lv.kind line.last lv.entry.remarks → x ≡ remark_tree s → ref_tree doc ≡ separated g front x
     → Stands (with_remark lv s) (record line { is_remarked = true; remarks = doc; broken = false; blank = false })
@@ -227,8 +236,10 @@ remark_stands lv line kind s g front x doc kinds h is fronts xs made = record {
 
 -- a part more, on a line on which nothing waits
 pub part_stands : (lv : Level) (line : Line) (kind : Kind) (x : Lexeme) (value : Tree) (doc : RefDoc) (g : Gap) (l : Last)
-    → HasTomlKind x → IsPart x → lv.kind ≡ kind → line_end line ≡ level_end lv → line.comma ≡ false → line.is_remarked ≡ false
-    → line.blank ≡ lv.blank → g ≡ gap_before_part kind line.last (sort_for x) line.blank → ref_tree doc ≡ separated g (ref_tree line.doc) value
+    → HasTomlKind x → IsPart x → lv.kind ≡ kind → line_end line ≡ level_end lv → line.comma ≡ false
+    → line.is_remarked ≡ false
+    → line.blank ≡ lv.blank → g ≡ gap_before_part kind line.last (sort_for x) line.blank
+    → ref_tree doc ≡ separated g (ref_tree line.doc) value
     → l ≡ last_after x
     → Stands (with_part lv (toml_text_of x) value) (record line { doc = doc; last = l; broken = false; blank = false })
 part_stands lv line kind x value doc g l named part kinds is no_comma no_remarks blanks gap made lasts = record {
@@ -243,7 +254,8 @@ part_stands lv line kind x value doc g l named part kinds is no_comma no_remarks
     gaps : g ≡ gap_before_part lv.kind (level_end lv).last (sort_of (toml_text_of x)) lv.blank
     gaps = gap ∙ (λ i. gap_before_part (sym kinds i) ((is i).last) (sym (sort_known x named) i) (blanks i))
 
-    trees : ref_tree doc ≡ separated (gap_before_part lv.kind (level_end lv).last (sort_of (toml_text_of x)) lv.blank) (level_end lv).tree value
+    trees : ref_tree doc ≡ separated (gap_before_part lv.kind (level_end lv).last (sort_of (toml_text_of x)) lv.blank)
+        (level_end lv).tree value
     trees = made ∙ (λ i. separated (gaps i) ((is i).tree) value)
 
     ends : l ≡ last_after_sort (sort_of (toml_text_of x))
@@ -259,17 +271,25 @@ closed_same lv line settled kind keeps kinds h kept is trails test =
     commas : keeps ≡ comma_kept lv.kind (part_end lv).last lv.entry.comma (is_some lv.entry.remarks)
     commas = kept ∙ (λ i. comma_kept (sym kinds i) ((h.end i).last) (h.comma i) (h.remarked i))
 
-    ends : line_end settled ≡ after_rest lv.kind (record lv.entry { comma = comma_kept lv.kind (part_end lv).last lv.entry.comma (is_some lv.entry.remarks) }) (part_end lv)
+    ends : line_end settled ≡ after_rest lv.kind (record lv.entry {
+      comma = comma_kept lv.kind (part_end lv).last lv.entry.comma
+          (is_some lv.entry.remarks);
+    }) (part_end lv)
     ends = is ∙ settled_as lv line keeps (comma_kept lv.kind (part_end lv).last lv.entry.comma (is_some lv.entry.remarks)) h commas
 
-    tests : trails ≡ (is_array lv.kind && ends_item (after_rest lv.kind (record lv.entry { comma = comma_kept lv.kind (part_end lv).last lv.entry.comma (is_some lv.entry.remarks) }) (part_end lv)).last)
+    tests : trails ≡ (is_array lv.kind && ends_item (after_rest lv.kind (record lv.entry {
+      comma = comma_kept lv.kind
+          (part_end lv).last lv.entry.comma (is_some lv.entry.remarks);
+    }) (part_end lv)).last)
     tests = test ∙ (λ i. is_array (sym kinds i) && ends_item ((ends i).last))
 
 -- ---- lexemes that are read
 
 -- a part that is no list
-pub plain_levels : (style : Style) (x : Lexeme) → HasTomlKind x → IsPart x → is_opening x ≡ false → (first : Bool) (lv : Level) (lvs : List Level)
-    → levels_with style (sort_of (toml_text_of x)) first lv lvs (toml_text_of x) ≡ with_part lv (toml_text_of x) (lexeme_tree (toml_text_of x)) ∷ lvs
+pub plain_levels : (style : Style) (x : Lexeme) → HasTomlKind x → IsPart x → is_opening x ≡ false
+    → (first : Bool) (lv : Level) (lvs : List Level)
+    → levels_with style (sort_of (toml_text_of x)) first lv lvs (toml_text_of x)
+    ≡ with_part lv (toml_text_of x) (lexeme_tree (toml_text_of x)) ∷ lvs
 plain_levels style lexeme.OpenArray named part e first lv lvs = absurd (cc)
 plain_levels style lexeme.CloseArray named part e first lv lvs = absurd part
 plain_levels style lexeme.OpenTable named part e first lv lvs = absurd (cc)
@@ -284,13 +304,16 @@ plain_levels style (lexeme.Word s) named part e first lv lvs =
     ap (λ (k : Sort). levels_with style k first lv lvs s.now) (sort_word s.now named)
 
 -- a bracket that opens a list
-pub opened_levels : (style : Style) (x : Lexeme) → is_opening x ≡ true → (around kind : Kind) (first : Bool) (lv : Level) (lvs : List Level)
+pub opened_levels : (style : Style) (x : Lexeme) → is_opening x ≡ true
+    → (around kind : Kind) (first : Bool) (lv : Level) (lvs : List Level)
     → lv.kind ≡ around → kind ≡ kind_in around first (sort_for x)
     → levels_with style (sort_of (toml_text_of x)) first lv lvs (toml_text_of x) ≡ new_level kind (toml_text_of x) ∷ lv ∷ lvs
 opened_levels style lexeme.OpenArray o around kind first lv lvs kinds is =
-    λ i. new_level ((ap (λ (k : Kind). kind_in k first sort.open_array) kinds ∙ sym is) i) (toml_text_of lexeme.OpenArray) ∷ lv ∷ lvs
+    λ i. new_level ((ap (λ (k : Kind). kind_in k first sort.open_array) kinds
+    ∙ sym is) i) (toml_text_of lexeme.OpenArray) ∷ lv ∷ lvs
 opened_levels style lexeme.OpenTable o around kind first lv lvs kinds is =
-    λ i. new_level ((ap (λ (k : Kind). kind_in k first sort.open_table) kinds ∙ sym is) i) (toml_text_of lexeme.OpenTable) ∷ lv ∷ lvs
+    λ i. new_level ((ap (λ (k : Kind). kind_in k first sort.open_table) kinds
+    ∙ sym is) i) (toml_text_of lexeme.OpenTable) ∷ lv ∷ lvs
 opened_levels style lexeme.CloseArray o around kind first lv lvs kinds is = absurd (cc)
 opened_levels style lexeme.CloseTable o around kind first lv lvs kinds is = absurd (cc)
 opened_levels style lexeme.Comma o around kind first lv lvs kinds is = absurd (cc)
@@ -301,7 +324,8 @@ opened_levels style (lexeme.String s) o around kind first lv lvs kinds is = absu
 opened_levels style (lexeme.Word s) o around kind first lv lvs kinds is = absurd (cc)
 
 -- a bracket that closes one
-pub closed_reads : (style : Style) (x : Lexeme) → is_closing x ≡ true → (d : Draft) (lv outer : Level) (lvs : List Level) (left : List (List ℕ))
+pub closed_reads : (style : Style) (x : Lexeme) → is_closing x ≡ true
+    → (d : Draft) (lv outer : Level) (lvs : List Level) (left : List (List ℕ))
     → document_from style (record d { levels = lv ∷ outer ∷ lvs }) (toml_text_of x ∷ left)
     ≡ document_from style (record d { levels = with_part outer lv.opening (list_tree style lv (toml_text_of x)) ∷ lvs }) left
 unfolding document_from
@@ -317,7 +341,8 @@ closed_reads style (lexeme.String s) c d lv outer lvs left = absurd (cc)
 closed_reads style (lexeme.Word s) c d lv outer lvs left = absurd (cc)
 
 -- a part of a level that has begun
-pub part_reads : (style : Style) (x : Lexeme) → HasTomlKind x → IsPart x → (d : Draft) (lv : Level) (lvs : List Level) (left : List (List ℕ))
+pub part_reads : (style : Style) (x : Lexeme) → HasTomlKind x → IsPart x
+    → (d : Draft) (lv : Level) (lvs : List Level) (left : List (List ℕ))
     → document_from style (record d { levels = lv ∷ lvs }) (toml_text_of x ∷ left)
     ≡ document_from style (record d { levels = levels_with style (sort_of (toml_text_of x)) false lv lvs (toml_text_of x) }) left
 unfolding document_from
@@ -380,7 +405,8 @@ closing_reads_next style s between left (inr (y, rest, e, c)) is d lv outer lvs 
     let same : toml_text_of y ∷ rest ≡ s ∷ left = sym e ∙ is in
     ap (λ (ss : List (List ℕ)). document_from style (record d { levels = lv ∷ outer ∷ lvs }) ss) e
     ∙ closed_reads style y c d lv outer lvs rest
-    ∙ (λ i. document_from style (record d { levels = with_part outer lv.opening (list_tree style lv (first_of (same i))) ∷ lvs }) (all_but_first (same i)))
+    ∙ (λ i. document_from style (record d { levels = with_part outer lv.opening (list_tree style lv (first_of (same i))) ∷ lvs })
+    (all_but_first (same i)))
 
 -- a list whose brackets are closed
 pub list_reads : (style : Style) (x : Lexeme) (s : List ℕ) → is_opening x ≡ true → (around kind : Kind) (first : Bool)
@@ -389,10 +415,14 @@ pub list_reads : (style : Style) (x : Lexeme) (s : List ℕ) → is_opening x �
     → ((lv : Level) → lv.kind ≡ kind → lv.opening ≡ toml_text_of x → Stands lv line → tree ≡ list_tree style lv s)
     → ReadsPart style around first (toml_text_of x) old left tree
 list_reads style x s o around kind first is old between left line tree h c e trees = λ d lv lvs kinds.
-    ap (λ (ls : List Level). document_from style (record d { levels = ls }) old) (opened_levels style x o around kind first lv lvs kinds is)
+    ap (λ (ls : List Level). document_from style (record d { levels = ls }) old)
+    (opened_levels style x o around kind first lv lvs kinds is)
     ∙ h.same d (lv ∷ lvs) tt
     ∙ closing_reads_next style s between left c e d h.level lv lvs
-    ∙ (λ i. document_from style (record d { levels = with_part lv (h.opening refl i) (sym (trees h.level h.kind (h.opening refl) h.stands) i) ∷ lvs }) left)
+    ∙ (λ i. document_from style (record d {
+      levels = with_part lv (h.opening refl i) (sym (trees h.level h.kind
+          (h.opening refl) h.stands) i) ∷ lvs;
+    }) left)
 
 unclosed_reads : (style : Style) (d : Draft) (lv outer : Level) (lvs : List Level)
     → document_from style (record d { levels = lv ∷ outer ∷ lvs }) []
@@ -412,7 +442,8 @@ unclosed_list_reads style x o around kind first is old between left line tree h 
     ≡ document_from style (record d { levels = with_part lv s tree ∷ lvs }) [] =
     λ i. document_from style
     (record d { levels = with_part lv (h.opening refl i) (sym (trees h.level (h.opening refl) h.stands) i) ∷ lvs }) [] in
-    ap (λ (ls : List Level). document_from style (record d { levels = ls }) old) (opened_levels style x o around kind first lv lvs kinds is)
+    ap (λ (ls : List Level). document_from style (record d { levels = ls }) old)
+    (opened_levels style x o around kind first lv lvs kinds is)
     ∙ h.same d (lv ∷ lvs) tt
     ∙ ap (λ (ss : List (List ℕ)). document_from style (record d { levels = h.level ∷ lv ∷ lvs }) ss) e
     ∙ unclosed_reads style d h.level lv lvs
@@ -449,7 +480,8 @@ comma_kind true lv = (refl, refl)
 comma_kind false lv = (refl, refl)
 
 comma_same : (style : Style) (d : Draft) (lv : Level) (lvs : List Level) (left : List (List ℕ))
-    → document_from style (record d { levels = lv ∷ lvs }) ((comma ∷ []) ∷ left) ≡ document_from style (record d { levels = level_with_comma lv ∷ lvs }) left
+    → document_from style (record d { levels = lv ∷ lvs }) ((comma ∷ []) ∷ left)
+    ≡ document_from style (record d { levels = level_with_comma lv ∷ lvs }) left
 unfolding document_from
 comma_same style d lv lvs left = refl
 
@@ -463,7 +495,8 @@ comma_reads style nested lv s left made e h =
       kind = kinds.0;
       opening = λ n. kinds.1;
       stands = h;
-      same = λ d lvs a. ap (λ (t : List ℕ). document_from style (record d { levels = lv ∷ lvs }) (t ∷ left)) e ∙ comma_same style d lv lvs left;
+      same = λ d lvs a. ap (λ (t : List ℕ). document_from style (record d { levels = lv ∷ lvs }) (t ∷ left)) e
+          ∙ comma_same style d lv lvs left;
     }
 
 line_end_same : (style : Style) (d : Draft) (lv outer : Level) (lvs : List Level) (left : List (List ℕ))
@@ -486,28 +519,33 @@ line_end_reads style lv s left made e h = record {
   kind = refl;
   opening = λ n. refl;
   stands = h;
-  same = λ d lvs a. ap (λ (t : List ℕ). document_from style (record d { levels = lv ∷ lvs }) (t ∷ left)) e ∙ line_end_around style d lv lvs left a;
+  same = λ d lvs a. ap (λ (t : List ℕ). document_from style (record d { levels = lv ∷ lvs }) (t ∷ left)) e
+      ∙ line_end_around style d lv lvs left a;
 }
 
 remark_same : (style : Style) (d : Draft) (lv : Level) (lvs : List Level) (s : List ℕ) (left : List (List ℕ)) → head s ≡ hash
-    → document_from style (record d { levels = lv ∷ lvs }) (s ∷ left) ≡ document_from style (record d { levels = with_remark lv s ∷ lvs }) left
+    → document_from style (record d { levels = lv ∷ lvs }) (s ∷ left)
+    ≡ document_from style (record d { levels = with_remark lv s ∷ lvs }) left
 unfolding document_from
 remark_same style d lv lvs s left named =
     ap (λ (k : Sort). document_from style (draft_with style k (record d { levels = lv ∷ lvs }) s) left) (sort_remark s named)
 
 -- a remark was taken
-pub remark_reads : (style : Style) (nested : Bool) (lv : Level) (s t : List ℕ) (left : List (List ℕ)) (made : Line) → s ≡ t → head t ≡ hash
+pub remark_reads : (style : Style) (nested : Bool) (lv : Level) (s t : List ℕ) (left : List (List ℕ)) (made : Line) → s ≡ t
+    → head t ≡ hash
     → Stands (with_remark lv t) made → ReadsOn style nested lv (s ∷ left) left made
 remark_reads style nested lv s t left made e named h = record {
   level = with_remark lv t;
   kind = refl;
   opening = λ n. refl;
   stands = h;
-  same = λ d lvs a. ap (λ (t : List ℕ). document_from style (record d { levels = lv ∷ lvs }) (t ∷ left)) e ∙ remark_same style d lv lvs t left named;
+  same = λ d lvs a. ap (λ (t : List ℕ). document_from style (record d { levels = lv ∷ lvs }) (t ∷ left)) e
+      ∙ remark_same style d lv lvs t left named;
 }
 
 -- a part was taken
-pub value_reads : (style : Style) (nested : Bool) (kind : Kind) (lv : Level) (x : Lexeme) (old left : List (List ℕ)) (tree : Tree) (made : Line)
+pub value_reads : (style : Style) (nested : Bool) (kind : Kind) (lv : Level) (x : Lexeme) (old left : List (List ℕ)) (tree : Tree)
+    (made : Line)
     → HasTomlKind x → IsPart x → lv.kind ≡ kind → ReadsPart style kind false (toml_text_of x) old left tree
     → Stands (with_part lv (toml_text_of x) tree) made → ReadsOn style nested lv (toml_text_of x ∷ old) left made
 value_reads style nested kind lv x old left tree made named part kinds read h = record {
@@ -580,7 +618,10 @@ remark_first_reads style d s left named =
 
 closing_same_levels : (style : Style) (x : Lexeme) → is_closing x ≡ true → (d : Draft) (lv : Level) (left : List (List ℕ))
     → document_from style (record d { levels = lv ∷ [] }) (toml_text_of x ∷ left)
-    ≡ document_from style (record d { levels = with_part new_statement (toml_text_of x) (append (closed_end lv).tree (counted.text (toml_text_of x))) ∷ [] }) left
+    ≡ document_from style (record d {
+      levels = with_part new_statement (toml_text_of x) (append (closed_end lv).tree (counted.text
+          (toml_text_of x))) ∷ [];
+    }) left
 unfolding document_from
 closing_same_levels style lexeme.CloseArray c d lv left = refl
 closing_same_levels style lexeme.CloseTable c d lv left = refl
@@ -593,14 +634,19 @@ closing_same_levels style (lexeme.Remark s) c d lv left = absurd (cc)
 closing_same_levels style (lexeme.String s) c d lv left = absurd (cc)
 closing_same_levels style (lexeme.Word s) c d lv left = absurd (cc)
 
-closing_around : (style : Style) (x : Lexeme) → is_closing x ≡ true → (d : Draft) (lv : Level) (lvs : List Level) (left : List (List ℕ)) → AreAround false lvs
+closing_around : (style : Style) (x : Lexeme) → is_closing x ≡ true
+    → (d : Draft) (lv : Level) (lvs : List Level) (left : List (List ℕ)) → AreAround false lvs
     → document_from style (record d { levels = lv ∷ lvs }) (toml_text_of x ∷ left)
-    ≡ document_from style (record d { levels = with_part new_statement (toml_text_of x) (append (closed_end lv).tree (counted.text (toml_text_of x))) ∷ lvs }) left
+    ≡ document_from style (record d {
+      levels = with_part new_statement (toml_text_of x) (append (closed_end lv).tree (counted.text
+          (toml_text_of x))) ∷ lvs;
+    }) left
 closing_around style x c d lv [] left a = closing_same_levels style x c d lv left
 closing_around style x c d lv (outer ∷ lvs) left a = absurd a
 
 -- a bracket that closes nothing was taken
-pub closing_reads : (style : Style) (lv : Level) (x : Lexeme) (left : List (List ℕ)) (made : Line) → is_closing x ≡ true → lv.kind ≡ Statement
+pub closing_reads : (style : Style) (lv : Level) (x : Lexeme) (left : List (List ℕ)) (made : Line) → is_closing x ≡ true
+    → lv.kind ≡ Statement
     → Stands (with_part new_statement (toml_text_of x) (append (closed_end lv).tree (counted.text (toml_text_of x)))) made
     → ReadsOn style false lv (toml_text_of x ∷ left) left made
 closing_reads style lv x left made c kinds h = record {
@@ -612,7 +658,8 @@ closing_reads style lv x left made c kinds h = record {
 }
 
 -- the beginning of a statement, and more
-pub first_then : (style : Style) (old between next left : List (List ℕ)) (line made : Line) → ReadsFirst style old between line → between ≡ next
+pub first_then : (style : Style) (old between next left : List (List ℕ)) (line made : Line) → ReadsFirst style old between line
+    → between ≡ next
     → ((later : Level) → later.kind ≡ Statement → Stands later line → ReadsOn style false later next left made)
     → ReadsFirst style old left made
 first_then style old between next left line made h e f = with_step (f h.level h.kind h.stands)
@@ -627,7 +674,8 @@ first_then style old between next left line made h e f = with_step (f h.level h.
     }
 
 statement_ends : (style : Style) (d : Draft) (lv : Level) (left : List (List ℕ))
-    → document_from style (record d { levels = lv ∷ [] }) ((line_feed ∷ []) ∷ left) ≡ document_from style (draft_with_statement d (level_end lv).tree) left
+    → document_from style (record d { levels = lv ∷ [] }) ((line_feed ∷ []) ∷ left)
+    ≡ document_from style (draft_with_statement d (level_end lv).tree) left
 unfolding document_from
 statement_ends style d lv left = refl
 
@@ -638,7 +686,8 @@ text_ends style d lv = refl
 
 -- the end of a statement, which is a line end or the end of the text
 pub statement_reads : (style : Style) (old between left : List (List ℕ)) (line : Line) (tree : Tree) → ReadsFirst style old between line
-    → ((between ≡ []) × (left ≡ [])) ⊎ (between ≡ (line_feed ∷ []) ∷ left) → (settled : Line) → line_end settled ≡ settled_end line
+    → ((between ≡ []) × (left ≡ [])) ⊎ (between ≡ (line_feed ∷ []) ∷ left) → (settled : Line)
+    → line_end settled ≡ settled_end line
     → tree ≡ ref_tree settled.doc → ReadsStatement style old left tree
 statement_reads style old between left line tree h ends settled is trees = λ d.
     h.same d ∙ ended d ends ∙ ap (λ (t : Tree). document_from style (draft_with_statement d t) left) (sym whole)
@@ -647,12 +696,14 @@ statement_reads style old between left line tree h ends settled is trees = λ d.
     whole = trees ∙ ap (λ (e : End). e.tree) (is ∙ settled_same h.level line h.stands)
 
     ended : (d : Draft) → ((between ≡ []) × (left ≡ [])) ⊎ (between ≡ (line_feed ∷ []) ∷ left)
-        → document_from style (record d { levels = h.level ∷ [] }) between ≡ document_from style (draft_with_statement d (level_end h.level).tree) left
+        → document_from style (record d { levels = h.level ∷ [] }) between
+        ≡ document_from style (draft_with_statement d (level_end h.level).tree) left
     ended d (inl p) =
         ap (λ (ss : List (List ℕ)). document_from style (record d { levels = h.level ∷ [] }) ss) p.0 ∙ text_ends style d h.level
         ∙ ap (λ (ss : List (List ℕ)). document_from style (draft_with_statement d (level_end h.level).tree) ss) (sym p.1)
     ended d (inr p) =
-        ap (λ (ss : List (List ℕ)). document_from style (record d { levels = h.level ∷ [] }) ss) p ∙ statement_ends style d h.level left
+        ap (λ (ss : List (List ℕ)). document_from style (record d { levels = h.level ∷ [] }) ss) p
+        ∙ statement_ends style d h.level left
 
 -- ---- texts
 

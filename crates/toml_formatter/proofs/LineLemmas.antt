@@ -56,7 +56,8 @@ pub hash_ends : (s : List ℕ) → head s ≡ hash → EndsAs last.Remark s
 hash_ends s h u = let b = begins_remark s h in ap (λ (x : List ℕ). least_between x u) b.1
 
 -- reading a remark is reading it without the blanks at its end
-pub trimmed_read : (c : Collected) (s : List ℕ) → head s ≡ hash → IsWholeLexeme (trimmed s) → with_lexeme c (trimmed s) ≡ with_lexeme c s
+pub trimmed_read : (c : Collected) (s : List ℕ) → head s ≡ hash → IsWholeLexeme (trimmed s)
+    → with_lexeme c (trimmed s) ≡ with_lexeme c s
 trimmed_read c s h whole =
     let trimmed_role = hash_role (trimmed s) (trimmed_head s h) in
     let twice : trimmed (trimmed s) ≡ trimmed s = subst (λ (r : Role). EndsWell r (trimmed s)) trimmed_role whole.ends in
@@ -133,7 +134,8 @@ waiting_nested nested line l rs items c w h =
     nested_along nested c (with_lexemes c (waiting line.comma rs))
     (waiting_depth line.comma c rs (waiting_remarks line.is_remarked nested l rs items w)) h
 
-pub line_end_taken : (line : Line) (p q : Bool) (left taken : List (List ℕ)) → ShowsTaken true true line ((line_feed ∷ []) ∷ left) taken
+pub line_end_taken : (line : Line) (p q : Bool) (left taken : List (List ℕ))
+    → ShowsTaken true true line ((line_feed ∷ []) ∷ left) taken
     → ShowsTaken true true (record line { broken = p; blank = q }) left (taken ++ (line_feed ∷ []) ∷ [])
 line_end_taken line p q left taken h = record {
   items = h.items;
@@ -235,13 +237,15 @@ remarks_shown nested exact line left taken doc settled waits both h = record {
           read = read_both a (directly_after c r.text) (directly_after k shown.0) h.items h.remark_items r.read shown.1;
           same = agrees_then exact (with_lexemes (before_next a) taken) (with_lexemes c (waiting line.comma h.rs))
               (with_lexemes k (waiting line.comma [])) r.same
-              (ap (λ (w : Bool). with_lexemes c (waiting w h.rs)) settled ∙ sym (ap (λ (w : Bool). with_lexemes k (waiting w [])) settled));
+              (ap (λ (w : Bool). with_lexemes c (waiting w h.rs)) settled
+              ∙ sym (ap (λ (w : Bool). with_lexemes k (waiting w [])) settled));
           ends = inr (record { needs = shown.2; plain = tt; inside = nested_along nested c k (remarks_depth c h.rs held.0) ends.inside });
           level = elim r.level [ inl o ↦ absurd (clash waits o.2) | inr e ↦ inr (λ n. remarks_depth c h.rs held.0 ∙ e n) ];
         }
 
 -- a comma is taken where none waits, and none of what waits was shown
-comma_held : (nested : Bool) (line : Line) (p q : Bool) (left taken : List (List ℕ)) → line.comma ≡ false → may_hold line.last ≡ false
+comma_held : (nested : Bool) (line : Line) (p q : Bool) (left taken : List (List ℕ)) → line.comma ≡ false
+    → may_hold line.last ≡ false
     → ShowsTaken nested true line ((comma ∷ []) ∷ left) taken
     → ShowsTaken nested true (record line { comma = true; broken = p; blank = q }) left (taken ++ (comma ∷ []) ∷ [])
 comma_held nested line p q left taken none plain h = record {
@@ -266,14 +270,16 @@ comma_held nested line p q left taken none plain h = record {
           text = r.text;
           read = r.read;
           same = with_both (before_next a) taken ((comma ∷ []) ∷ [])
-              ∙ ap (λ (y : Collected). with_lexeme y (comma ∷ [])) (r.same ∙ ap (λ (w : Bool). with_lexemes c (waiting w h.rs)) none)
+              ∙ ap (λ (y : Collected). with_lexeme y (comma ∷ [])) (r.same
+              ∙ ap (λ (w : Bool). with_lexemes c (waiting w h.rs)) none)
               ∙ comma_passes c h.rs nothing.0 remarks;
           ends = inr ends;
           level = inr (line_level r);
         }
 
 -- a comma is taken where nothing waits
-comma_alone : (nested : Bool) (line : Line) (p q : Bool) (left taken : List (List ℕ)) → line.comma ≡ false → line.is_remarked ≡ false
+comma_alone : (nested : Bool) (line : Line) (p q : Bool) (left taken : List (List ℕ)) → line.comma ≡ false
+    → line.is_remarked ≡ false
     → ShowsTaken nested true line ((comma ∷ []) ∷ left) taken
     → ShowsTaken nested true (record line { comma = true; broken = p; blank = q }) left (taken ++ (comma ∷ []) ∷ [])
 comma_alone nested line p q left taken none alone h = record {
@@ -299,7 +305,8 @@ comma_alone nested line p q left taken none alone h = record {
           read = r.read;
           same = with_both (before_next a) taken ((comma ∷ []) ∷ [])
               ∙ ap (λ (y : Collected). with_lexeme y (comma ∷ []))
-              (r.same ∙ ap (λ (w : Bool). with_lexemes c (waiting w h.rs)) none ∙ ap (λ (rs : List (List ℕ)). with_lexemes c rs) no_remarks)
+              (r.same ∙ ap (λ (w : Bool). with_lexemes c (waiting w h.rs)) none
+              ∙ ap (λ (rs : List (List ℕ)). with_lexemes c rs) no_remarks)
               ∙ sym (ap (λ (rs : List (List ℕ)). with_lexemes c (waiting true rs)) no_remarks);
           ends = inr (line_ends r);
           level = inr (line_level r);
@@ -324,7 +331,8 @@ module _ (nested : Bool) (l : Last) (gap : Between) (remark : List ℕ) (is : he
   remark_read : (m : Last) (c : Collected) (t : List ℕ) → EndsAs m t → IsNested nested c
       → more (least_needed m hash) (least_of gap) ≡ least_of gap
       → (nested ≡ false → stays gap ≡ true)
-      → AreRead (directly_after c t) (gap_items gap ++ Shown (trimmed remark) ∷ []) (directly_after (with_lexeme c remark) (trimmed remark))
+      → AreRead (directly_after c t) (gap_items gap ++ Shown (trimmed remark) ∷ []) (directly_after (with_lexeme c remark)
+      (trimmed remark))
   remark_read m c t ends inside enough stays_there =
       let next : MayFollow nested m c t false gap (trimmed remark) = record {
         ends = ends;
@@ -354,7 +362,8 @@ module _ (nested : Bool) (l : Last) (gap : Between) (remark : List ℕ) (is : he
   )
 
   -- one more
-  more_remarks : (rs : List (List ℕ)) (items : List Item) → AreRemarks rs → ReadsRemarks nested l rs items → least_of gap ≡ LineEnd
+  more_remarks : (rs : List (List ℕ)) (items : List Item) → AreRemarks rs → ReadsRemarks nested l rs items
+      → least_of gap ≡ LineEnd
       → (nested ≡ false → stays gap ≡ true)
       → ReadsRemarks nested l (rs ++ remark ∷ []) (items ++ (gap_items gap ++ Shown (trimmed remark) ∷ []))
   more_remarks rs items are h enough stays_there c t e inside =
@@ -389,7 +398,8 @@ module _ (nested : Bool) (l : Last) (gap : Between) (remark : List ℕ) (is : he
     }
       where
         one : (a : Stage) → LineRead nested true line (remark ∷ left) taken h.items h.rs a
-            → LineRead nested true (record line { is_remarked = true; remarks = doc; broken = p; blank = q }) left (taken ++ remark ∷ [])
+            → LineRead nested true (record line { is_remarked = true; remarks = doc; broken = p; blank = q }) left
+            (taken ++ remark ∷ [])
             h.items (h.rs ++ remark ∷ []) a
         one a r =
             let c = r.collected in
@@ -591,13 +601,15 @@ module _ (nested : Bool) (line : Line) (x : List ℕ) (left taken : List (List �
       nothing_needed last.Comma e = absurd (cc)
       nothing_needed last.Remark e = absurd (cc)
 
-      one : (a : Stage) → LineRead nested false line (x ∷ left) taken h.items h.rs a → ClosedRead nested (record line { doc = doc }) x taken
+      one : (a : Stage) → LineRead nested false line (x ∷ left) taken h.items h.rs a
+          → ClosedRead nested (record line { doc = doc }) x taken
           (h.items ++ Mark (comma ∷ []) ∷ []) a
       one a r =
           let c = r.collected in
           let ends = line_ends r in
           let nothing = holds_nothing line.last c plain ends.plain in
-          let before_comma : least_between r.text (comma ∷ []) ≡ shown.Nothing = ends.needs (comma ∷ []) ∙ nothing_needed line.last plain in
+          let before_comma : least_between r.text (comma ∷ []) ≡ shown.Nothing = ends.needs (comma ∷ [])
+          ∙ nothing_needed line.last plain in
           record {
             collected = c;
             text = r.text;
@@ -632,13 +644,15 @@ goes_on_alone false line h e = h.0
 pub never : {P : Type 0} → true ≡ false → P
 never e = absurd (clash refl e)
 
-pub remarked_nested : (nested : Bool) (line : Line) {P : Type 0} → TakesMore nested line → line.is_remarked ≡ true → nested ≡ false → P
+pub remarked_nested : (nested : Bool) (line : Line) {P : Type 0} → TakesMore nested line → line.is_remarked ≡ true
+    → nested ≡ false → P
 remarked_nested nested line h r e = absurd (clash r (goes_on_alone nested line h e))
 
 -- a remark's text shows itself
 pub remark_items : (s : List ℕ) → head s ≡ hash → text_items s ≡ Shown s ∷ []
 remark_items s h = let b = begins_remark s h in rw b.1 refl
 
-pub trimmed_shows : (x : Tree) (s t : List ℕ) → head s ≡ hash → t ≡ trimmed s → shows x (text_items t) → shows x (Shown (trimmed s) ∷ [])
+pub trimmed_shows : (x : Tree) (s t : List ℕ) → head s ≡ hash → t ≡ trimmed s → shows x (text_items t)
+    → shows x (Shown (trimmed s) ∷ [])
 trimmed_shows x s t h e k =
     subst (shows x) (ap text_items e ∙ remark_items (trimmed s) (trimmed_head s h)) k
