@@ -1,6 +1,8 @@
 -- The bytes before where a text stops being JSON begin a text that is JSON.
-use Rattle.std.proofs.Common.{◌≡◌, ℕ, zero, suc, ◌+◌, ◌-◌, ◌≤◌, true, false, Bool, cond, ◌&&◌, ◌||◌, List, [], ◌∷◌}
-use Rattle.std.proofs.Common.{◌++◌, length, take, drop, reverse, Option, Some, None, option_and_then, refl, sym, ap, ◌∙◌, subst, arith}
+use Rattle.std.proofs.Common.{◌≡◌, ℕ, zero, suc, ◌+◌, ◌-◌, ◌≤◌, true, false, Bool, cond, ◌&&◌, ◌||◌, List}
+use Rattle.std.proofs.Common.{[], ◌∷◌}
+use Rattle.std.proofs.Common.{◌++◌, length, take, drop, reverse, Option, Some, None, option_and_then, refl, sym, ap, ◌∙◌, subst}
+use Rattle.std.proofs.Common.{arith}
 use Rattle.std.proofs.Common.{IsSome, append-nil, append_assoc}
 use Rattle.std.specs.Prelude.{⊤}
 use Rattle.std.proofs.lemmas.Bool.{true≢false, and_parts, or_parts}
@@ -43,18 +45,21 @@ use Rattle.json_lexemes.proofs.Words.{cut-word, run_of}
 
 -- where it is JSON, the lexeme s is cut off before any bytes as it is before these, but that a word has to end there too
 abbrev IsCutOff : List ℕ → List ℕ → Type 0
-IsCutOff s here = IsLeafIfAny (json_sort_of s) s → (r : List ℕ) → (ends_word here ≡ true → ends_word r ≡ true) → cut between (s ++ r) ≡ s
+IsCutOff s here = IsLeafIfAny (json_sort_of s) s → (r : List ℕ) → (ends_word here ≡ true → ends_word r ≡ true)
+    → cut between (s ++ r) ≡ s
     ∷ cut between r
 
 -- the bytes are these lexemes after gaps, and so is each
 abbrev AreCutOff : List ℕ → List (List ℕ) → Type 0
 AreCutOff xs [] = ⊤
-AreCutOff xs (s ∷ ss) = (g : List ℕ) × (rest : List ℕ) × IsGap g × IsBegun s × (xs ≡ g ++ (s ++ rest)) × IsCutOff s rest × AreCutOff rest ss
+AreCutOff xs (s ∷ ss) = (g : List ℕ) × (rest : List ℕ) × IsGap g × IsBegun s × (xs
+    ≡ g ++ (s ++ rest)) × IsCutOff s rest × AreCutOff rest ss
 
 abbrev HasCuts : List ℕ → Type 0
 HasCuts xs = AreCutOff xs (cut between xs)
 
-one_cut : (s xs rest : List ℕ) → cut between xs ≡ s ∷ cut between rest → xs ≡ s ++ rest → IsBegun s → IsCutOff s rest → HasCuts rest
+one_cut : (s xs rest : List ℕ) → cut between xs ≡ s ∷ cut between rest → xs ≡ s ++ rest → IsBegun s → IsCutOff s rest
+    → HasCuts rest
     → HasCuts xs
 one_cut s xs rest cuts is begun off h = subst (AreCutOff xs) (sym cuts) ([], rest, tt, begun, is, off, h)
 
@@ -67,7 +72,8 @@ no_space : (x : ℕ) → is_operator x ≡ true → is_space x ≡ false
 no_space = each_operator (λ x. is_space x ≡ false) refl refl refl refl refl refl
 
 -- a string that is JSON ends where it is cut off
-string_off : (f rest : List ℕ) → is_leaf (34 ∷ f) ≡ true → cut between (34 ∷ (f ++ rest)) ≡ (34 ∷ f) ∷ cut between rest → (r : List ℕ)
+string_off : (f rest : List ℕ) → is_leaf (34 ∷ f) ≡ true → cut between (34 ∷ (f ++ rest))
+    ≡ (34 ∷ f) ∷ cut between rest → (r : List ℕ)
     → cut between (34 ∷ (f ++ r)) ≡ (34 ∷ f) ∷ cut between r
 string_off f rest leaf cuts r =
     let c = leaf_content f leaf in
@@ -132,7 +138,8 @@ record Front (xs : List ℕ) (ss others : List (List ℕ)) : Type 0 where
   left : AreCutOff here others
   splits : spaced_as xs (ss ++ others) ≡ ps ++ spaced_as here others
   same : lexemes_of ps ≡ ss
-  cuts : (more : List ℕ) → (ends_word here ≡ true → ends_word more ≡ true) → cut between (put_together ps ++ more) ≡ ss ++ cut between more
+  cuts : (more : List ℕ) → (ends_word here ≡ true → ends_word more ≡ true)
+      → cut between (put_together ps ++ more) ≡ ss ++ cut between more
   ends : (more : List ℕ) → (ends_word here ≡ true → ends_word more ≡ true) → ends_word xs ≡ true
       → ends_word (put_together ps ++ more) ≡ true
 
@@ -157,7 +164,8 @@ front_of (s ∷ ss) others xs (g, rest, gap, begun, is, off, h) leaves =
       cuts = λ more kept.
           ap (cut between) (bytes more) ∙ cut-gap g (s ++ (put_together f.ps ++ more)) gap
           ∙ off leaves.0 (put_together f.ps ++ more) (f.ends more kept) ∙ ap (λ (l : List (List ℕ)). s ∷ l) (f.cuts more kept);
-      ends = λ more kept e. ap ends_word (bytes more) ∙ same_start g s rest (put_together f.ps ++ more) begun (sym (ap ends_word is) ∙ e);
+      ends = λ more kept e. ap ends_word (bytes more) ∙ same_start g s rest (put_together f.ps ++ more) begun (sym
+          (ap ends_word is) ∙ e);
     }
 
 same_count : (ps : List Spaced) → length (lexemes_of ps) ≡ length ps
@@ -176,7 +184,8 @@ record Left (rest : List Spaced) : Type 0 where
   splits : rest ≡ spaced_as here (lexemes_of rest)
 
 -- what was read is cut off alike before other bytes
-read_cut : (text : List ℕ) (front rest : List Spaced) (more : List ℕ) → spaced_lexemes text ≡ front ++ rest → AreLeaves (lexemes_of front)
+read_cut : (text : List ℕ) (front rest : List Spaced) (more : List ℕ) → spaced_lexemes text ≡ front ++ rest
+    → AreLeaves (lexemes_of front)
     → ((l : Left rest) → ends_word l.here ≡ true → ends_word more ≡ true)
     → cut between (put_together front ++ more) ≡ lexemes_of front ++ cut between more
 read_cut text front rest more cuts leaves kept =
@@ -206,7 +215,8 @@ step_leaf sort.comma r t s e = tt
 step_leaf sort.colon r t s e = tt
 step_leaf sort.string r t s e = by (is_key r.next) e
   where
-    by : (b : Bool) → cond b (cond (is_leaf s) (Some (before r.open_brackets want.Colon)) None) (valued r s) ≡ Some t → is_leaf s ≡ true
+    by : (b : Bool) → cond b (cond (is_leaf s) (Some (before r.open_brackets want.Colon)) None) (valued r s) ≡ Some t
+        → is_leaf s ≡ true
     by true f = (taken (is_leaf s) (before r.open_brackets want.Colon) t f).0
     by false f = (and_parts (expects_value r.next) (is_leaf s)
         (taken (expects_value r.next && is_leaf s) (after_value_in r.open_brackets) t f).0).1
@@ -310,7 +320,8 @@ colon_finishes bs =
 key_finishes : (bs : List Bracket) → Finishes (before (reverse bs) want.Key) (34 ∷ 34 ∷ 58 ∷ 34 ∷ 34 ∷ closers bs)
 key_finishes bs =
     ap (json_reading_after (before (reverse bs) want.Key)) (empty_cut (58 ∷ 34 ∷ 34 ∷ closers bs))
-    ∙ stepped (before (reverse bs) want.Key) (before (reverse bs) want.Colon) (34 ∷ 34 ∷ []) (cut between (58 ∷ 34 ∷ 34 ∷ closers bs))
+    ∙ stepped (before (reverse bs) want.Key) (before (reverse bs) want.Colon) (34 ∷ 34 ∷ []) (cut between
+    (58 ∷ 34 ∷ 34 ∷ closers bs))
     (ap (λ b. cond b (Some (before (reverse bs) want.Colon)) None) empty_leaf)
     ∙ colon_finishes bs
 
@@ -333,14 +344,19 @@ finishes (Array ∷ bs) want.CommaOrBracket fits =
 finishes (Object ∷ bs) want.CommaOrBracket fits = absurd fits
 finishes [] want.CommaOrBrace fits = absurd fits
 finishes (Array ∷ bs) want.CommaOrBrace fits = absurd fits
-finishes (Object ∷ bs) want.CommaOrBrace fits = (closers (Object ∷ bs), object_finishes bs want.CommaOrBrace refl (after_value_finishes bs))
+finishes (Object ∷ bs) want.CommaOrBrace fits = (
+  closers (Object ∷ bs),
+  object_finishes bs want.CommaOrBrace refl
+      (after_value_finishes bs),
+)
 finishes [] want.End fits = ([], refl)
 finishes (b ∷ bs) want.End fits = absurd (cc)
 finishes bs n fits = absurd fits
 
 -- ---- texts
 
-begins : (text : List ℕ) (rest : List Spaced) (reading : JsonReading) (gap : List ℕ) (reached : ReachesJson text rest reading) → IsGap gap
+begins : (text : List ℕ) (rest : List Spaced) (reading : JsonReading) (gap : List ℕ) (reached : ReachesJson text rest reading)
+    → IsGap gap
     → BeginsJson (put_together reached.front ++ gap)
 begins text rest reading gap reached is_gap =
     let front = reached.front in
@@ -460,7 +476,8 @@ begins_string text found later reading t reached is_gap f p is leaf step =
     ∙ end.1 in
     (last, is_document (((put_together front ++ found.gap) ++ 34 ∷ p) ++ last) finished read refl)
 
-string_step : (r : JsonReading) (s : List ℕ) → is_leaf s ≡ true → expects_string r.next ≡ true → (t : JsonReading) × (keyed r s ≡ Some t)
+string_step : (r : JsonReading) (s : List ℕ) → is_leaf s ≡ true → expects_string r.next ≡ true
+    → (t : JsonReading) × (keyed r s ≡ Some t)
 string_step r s leaf may = by (is_key r.next) refl
   where
     value : (a b : Bool) → (a || b) ≡ true → b ≡ false → a ≡ true
