@@ -4,7 +4,7 @@
 usage: bench_layouts.py [LEVELS]
 
 Prints name, nodes, bytes and checksum of documents as small as `bench` compares them, or those of groups in groups
-with so many levels, within as many columns. The documents are those of crates/bench_workloads/src.
+with so many levels, within as many columns. The documents are those of crates/bench/src.
 """
 import sys, threading
 

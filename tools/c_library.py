@@ -1,6 +1,6 @@
 """Makes libprettyless.a and libprettyless.so of the code of the calls for other languages. Python 3.8 or later.
 
-All names but those of the calls are hidden in both. The shared library has a soname, libprettyless.so.0, that changes
+All names but those of the calls are hidden in both. The shared library has a soname, libprettyless.so.1, that changes
 only where a program that was linked with it no longer runs.
 """
 
@@ -9,11 +9,11 @@ import shutil
 import subprocess
 import tempfile
 
-CALLS = ("prettyless_layout", "prettyless_json_layout", "prettyless_toml")
+CALLS = ("prettyless_layout", "prettyless_layout_json", "prettyless_layout_toml")
 # What the library may take from the C library.
 OF_LIBC = {"malloc", "realloc", "free", "memcpy", "memmove", "memset", "memcmp"}
 ARCHIVE, SHARED = "libprettyless.a", "libprettyless.so"
-SONAME = f"{SHARED}.0"
+SONAME = f"{SHARED}.1"
 # Each program that is run, and the Debian package that has it.
 NEEDED = {"ar": "binutils", "gcc": "gcc", "ld": "binutils", "nm": "binutils", "objcopy": "binutils"}
 

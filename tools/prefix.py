@@ -1,4 +1,9 @@
-"""What stands where below a prefix, for tools/install and tools/release. Python 3.8 or later."""
+"""What stands where below a prefix, for tools/install and tools/release. Python 3.8 or later.
+
+usage: python3 tools/prefix.py LIBRARY PREFIX
+
+installs the library that stands in a folder, for `make install` of bindings/c.
+"""
 
 import os
 import re
@@ -21,16 +26,14 @@ _{name}() {{
 }}
 complete -o default -F _{name} {name}
 """
-PACKAGE = """prefix=${{pcfiledir}}/../..
-libdir=${{prefix}}/lib
-includedir=${{prefix}}/include
-
-Name: prettyless
-Description: A pretty printer{proofs}
-Version: {version}
-Cflags: -I${{includedir}}
-Libs: -L${{libdir}} -lprettyless
-"""
+C = f"{built.ROOT}/bindings/c"
+PRINTER = "A pretty printer"
+# What is made of templates of that folder, for pkg-config and for CMake, and where it stands.
+TOLD = {
+    "prettyless.pc": "lib/pkgconfig",
+    "prettyless-config.cmake": "lib/cmake/prettyless",
+    "prettyless-config-version.cmake": "lib/cmake/prettyless",
+}
 
 
 def put(path, to, mode=0o644):
@@ -74,18 +77,41 @@ def library_of(code, folder):
 
 
 def put_library(code, prefix, is_proved):
-    """Installs the library, its header, and what pkg-config reads. The files."""
-    archive, shared = (f"{prefix}/lib/{it}" for it in (c_library.ARCHIVE, c_library.SHARED))
+    """Installs the library of this code, its header, and what pkg-config and CMake read. The files."""
+    proofs = " whose layouts are proved" if is_proved else ", built without its proofs"
     with tempfile.TemporaryDirectory() as room:
-        library_of(code, room)
-        put(f"{room}/{c_library.ARCHIVE}", archive)
-        put(f"{room}/{c_library.SHARED}", f"{shared}.{version.version()}", 0o755)
+        return put_made_library(library_of(code, room), prefix, f"{PRINTER}{proofs}")
+
+
+def description_of(folder):
+    """What is told of the library that stands in a folder, where it was installed there."""
+    try:
+        with open(f"{folder}/pkgconfig/prettyless.pc", encoding="utf-8") as file:
+            told = re.search(r"^Description: (.*)", file.read(), re.M)
+    except FileNotFoundError:
+        return PRINTER
+    return told[1] if told else PRINTER
+
+
+def put_made_library(folder, prefix, description):
+    """The same of a library that stands in a folder."""
+    archive, shared = (f"{prefix}/lib/{it}" for it in (c_library.ARCHIVE, c_library.SHARED))
+    put(f"{folder}/{c_library.ARCHIVE}", archive)
+    put(f"{folder}/{c_library.SHARED}", f"{shared}.{version.version()}", 0o755)
     for it in (shared, f"{prefix}/lib/{c_library.SONAME}"):
         link(f"{shared}.{version.version()}", it)
-    header = put(f"{built.ROOT}/bindings/c/prettyless.h", f"{prefix}/include/prettyless.h")
-    proofs = " whose layouts are proved" if is_proved else ", built without its proofs"
-    package = PACKAGE.format(version=version.version(), proofs=proofs)
-    return [archive, shared, header, write(package, f"{prefix}/lib/pkgconfig/prettyless.pc")]
+    header = put(f"{C}/prettyless.h", f"{prefix}/include/prettyless.h")
+    return [archive, shared, header, *put_told(prefix, description)]
+
+
+def put_told(prefix, description):
+    """Installs what tells pkg-config and CMake where the library is. The files."""
+    placed = []
+    for name, place in TOLD.items():
+        with open(f"{C}/{name}.in", encoding="utf-8") as file:
+            text = file.read().replace("@VERSION@", version.version()).replace("@DESCRIPTION@", description)
+        placed.append(write(text, f"{prefix}/{place}/{name}"))
+    return placed
 
 
 def put_wheel(code, folder, is_proved):
@@ -96,3 +122,17 @@ def put_wheel(code, folder, is_proved):
         how = {**os.environ, "PRETTYLESS": library, "PYTHONDONTWRITEBYTECODE": "1"}
         ran = subprocess.run(words, stdout=subprocess.PIPE, check=True, universal_newlines=True, env=how)
     return [ran.stdout.strip()]
+
+
+def main():
+    if len(sys.argv) != 3:
+        sys.exit(__doc__)
+    try:
+        folder, prefix = map(os.path.abspath, sys.argv[1:])
+        print("\n".join(put_made_library(folder, prefix, description_of(folder))))
+    except OSError as error:
+        sys.exit(f"prefix.py: {error}")
+
+
+if __name__ == "__main__":
+    main()

@@ -29,6 +29,12 @@ def reading(program, words, given, out, status=0, said=b""):
     return Run(program, words, given, {}, Ending(status, out, said, {}))
 
 
+def with_settings(program, text, layout):
+    """A run that reads a file, and what an `.editorconfig` says of it."""
+    files = {"text1": text, ".editorconfig": SETTINGS}
+    return Run(program, ["text1"], b"", files, Ending(0, layout, b"", files))
+
+
 def writing(program, words, text, layout):
     """A run that replaces a file by its layout."""
     words = [*words, "--write", "text"]
@@ -37,11 +43,12 @@ def writing(program, words, text, layout):
 
 JSON = b'{"a":[1,2,{"b":null}],"cc":"dd"}'
 JSON_LAID_OUT = b'{\n  "a": [\n    1,\n    2,\n    {\n      "b": null\n    }\n  ],\n  "cc": "dd"\n}\n'
-JSON_DIFFERENCE = b'--- <stdin>\n+++ <stdin>\n@@ -1 +1 @@\n-{"a":1}\n+{"a": 1}\n'
+JSON_DIFFERENCE = b'--- <stdin>\n+++ <stdin>\n@@ -1 +1 @@\n-{"a":1}\n+{ "a": 1 }\n'
+SETTINGS = b"root = true\n[{t,u}e[!a]t{1..2}]\nmax_line_length = 10\n"
 JSON_FAULT = b"<stdin>:2:1: expected `,` or `]`, found the end of the text, opened at 1:6\n"
 
 TOML = b"[ a ]\nb=[1,22,333] # c\n"
-TOML_LAID_OUT = b"[a]\nb = [\n  1,\n  22,\n  333,\n] # c\n"
+TOML_LAID_OUT = b"[a]\nb = [\n  1, 22,\n  333,\n] # c\n"
 TOML_DIFFERENCE = b"--- <stdin>\n+++ <stdin>\n@@ -1 +1 @@\n-a=1\n+a = 1\n"
 TOML_FAULT = b"<stdin>:1:4: expected a value, found the end of the line\n"
 
@@ -53,6 +60,7 @@ FORMATTING = [
     reading("jsonfmt", ["--diff"], b'{"a":1}\n', JSON_DIFFERENCE, 1),
     reading("jsonfmt", [], b'{"a":[1,2\n', b"", 1, JSON_FAULT),
     writing("jsonfmt", ["--width", "10"], JSON, JSON_LAID_OUT),
+    with_settings("jsonfmt", JSON, JSON_LAID_OUT),
     reading("tomlfmt", ["--width", "10"], TOML, TOML_LAID_OUT),
     reading("tomlfmt", ["--check"], TOML, b"", 1, b"<stdin>: not laid out\n"),
     reading("tomlfmt", ["--diff"], b"a=1\n", TOML_DIFFERENCE, 1),

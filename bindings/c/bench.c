@@ -1,7 +1,7 @@
 /* Times the binding: bench [ATOMS]..
 
    For each number of atoms (1000, 100000 and 1000000 if none is given) it emits the workload `tree` of
-   crates/bench_workloads: lists of ten, in lists of ten, and so on, with the greatest power of ten up to that number of
+   crates/bench: lists of ten, in lists of ten, and so on, with the greatest power of ten up to that number of
    atoms. It lays this out at 80 columns. Emitting into a document without memory and laying out by pl_layout are timed
    apart; the least time of ten rounds counts. Then come the nanoseconds of a document of three nodes, emitted, laid out
    and freed, and of the same into areas that are kept. `bench` of crates/bench writes the length and the checksum for
@@ -77,7 +77,7 @@ static void time_tree(unsigned long most)
         pl_result layout;
         tree(&doc, height);
         emitted = microseconds();
-        layout = pl_layout(&doc, pl_width(80));
+        layout = pl_layout(&doc, 80, NULL);
         laying = least(laying, microseconds() - emitted);
         emitting = least(emitting, emitted - start);
         stop(layout.status);
@@ -106,7 +106,7 @@ static double time_string(void)
         pl_doc doc = PL_DOC_INIT;
         pl_result layout;
         three_nodes(&doc);
-        layout = pl_layout(&doc, pl_width(80));
+        layout = pl_layout(&doc, 80, NULL);
         stop(layout.status);
         free(layout.text);
         pl_free(&doc);

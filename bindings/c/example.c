@@ -126,17 +126,20 @@ static char *read_all(FILE *file, size_t *length)
 }
 
 /* Lays out the document and writes it. Answers what is wrong, or null. */
-static const char *lay_out(const pl_doc *doc, pl_options options, FILE *file)
+static const char *lay_out(const pl_doc *doc, size_t width, FILE *file)
 {
     const char *wrong = NULL;
-    pl_result layout = pl_layout(doc, options);
+    pl_options options = PL_OPTIONS_INIT;
+    pl_result layout;
+    options.limit = LONGEST_LAYOUT;
+    layout = pl_layout(doc, width, &options);
     if (layout.status != PL_OK) wrong = pl_message(layout.status);
     else if (fwrite(layout.text, 1, layout.length, file) < layout.length || fflush(file) != 0) wrong = strerror(errno);
     free(layout.text);
     return wrong;
 }
 
-static int format(const char *bytes, size_t length, pl_options options)
+static int format(const char *bytes, size_t length, size_t width)
 {
     input in = {bytes, bytes + length, 1};
     pl_doc doc = PL_DOC_INIT;
@@ -144,7 +147,7 @@ static int format(const char *bytes, size_t length, pl_options options)
     if (wrong != NULL) {
         fprintf(stderr, "example: line %zu: %s\n", in.line, wrong);
     } else {
-        wrong = lay_out(&doc, options, stdout);
+        wrong = lay_out(&doc, width, stdout);
         if (wrong != NULL) fprintf(stderr, "example: %s\n", wrong);
     }
     pl_free(&doc);
@@ -163,12 +166,10 @@ static bool read_width(const char *word, size_t *width)
 
 int main(int argc, char **argv)
 {
-    pl_options options = pl_width(80);
     char *bytes;
-    size_t length;
+    size_t length, width = 80;
     int status;
-    options.limit = LONGEST_LAYOUT;
-    if (argc > 2 || (argc == 2 && !read_width(argv[1], &options.width))) {
+    if (argc > 2 || (argc == 2 && !read_width(argv[1], &width))) {
         fputs("usage: example [WIDTH] <FILE\n", stderr);
         return 2;
     }
@@ -177,7 +178,7 @@ int main(int argc, char **argv)
         perror("example");
         return 1;
     }
-    status = format(bytes, length, options);
+    status = format(bytes, length, width);
     free(bytes);
     return status;
 }

@@ -12,15 +12,16 @@
        pl_line_or_nil(&doc);
        pl_text(&doc, ")");
        pl_close_group(&doc);
-       pl_result result = pl_layout(&doc, pl_width(80));
+       pl_result result = pl_layout(&doc, 80, NULL);
        puts(result.status == PL_OK ? result.text : pl_message(result.status));
        free(result.text);
        pl_free(&doc);
 
    It shows `f(x)`; at a width of 3, `x` has a line of its own, with an indent of two columns.
 
-   The library has three calls, prettyless_layout, prettyless_json_layout and prettyless_toml. All else here is inline
-   code over them; it is tested, not proved.
+   The library has three calls, prettyless_layout, prettyless_layout_json and prettyless_layout_toml. All else here is
+   inline code over them, with the prefix pl_; it is tested, not proved. A program in C calls pl_layout, pl_layout_json
+   and pl_layout_toml, which take options by name and answer a string.
 
    Memory: the library calls malloc, realloc and free of the program that it is linked into, and so does this header.
    They must be of one allocator, and answer memory that is aligned as C demands (for any type). A call of the library
@@ -184,6 +185,8 @@ uint32_t prettyless_layout(const uint8_t *program, size_t length, size_t width, 
    width      the width of lines in columns
    indent     how many columns each level is indented by
    fill       arrays of numbers fill their lines, else each broken array has a line for each item
+   keep_blank_lines
+              blank lines between members stay where lines are broken, of several one
 
    limit, out, capacity and written are as of prettyless_layout. The layout is made straight into `out`, and ends where
    it is past the limit. So give one where a text comes from someone else: see "Limits" in docs/BINDINGS.md.
@@ -196,27 +199,27 @@ uint32_t prettyless_layout(const uint8_t *program, size_t length, size_t width, 
 
    No pointer may be null, also for a length or a capacity of 0. The areas of text, out, written, line and column may
    not overlap. The call keeps no pointer. */
-uint32_t prettyless_json_layout(const uint8_t *text, size_t length, size_t width, uint32_t indent, bool fill,
-                                size_t limit, uint8_t *out, size_t capacity, size_t *written, size_t *line,
-                                size_t *column);
+uint32_t prettyless_layout_json(const uint8_t *text, size_t length, size_t width, uint32_t indent, bool fill,
+                                bool keep_blank_lines, size_t limit, uint8_t *out, size_t capacity, size_t *written,
+                                size_t *line, size_t *column);
 
 /* Lays out the TOML text text[0..length) (TOML 1.0, at most 128 brackets in one another), and answers a pl_status
-   below 16. A key that is defined twice is no fault. The layout has the same statements, with all remarks. Its lines
+   below 16. A key that is defined twice is no fault. The layout has the same statements, with all comments. Its lines
    end as the first line of the text does that ends outside of strings, or in LF if there is none. It ends in a line
    end, unless it is empty.
 
    width      the width of lines in columns
    indent     how many columns the members of a broken array are further in than its brackets
 
-   limit, out, capacity, written, line and column are as of prettyless_json_layout, with PL_NOT_TOML for PL_NOT_JSON,
+   limit, out, capacity, written, line and column are as of prettyless_layout_json, with PL_NOT_TOML for PL_NOT_JSON,
    but the whole layout is made in memory before it is copied to `out`. So a limit bounds neither memory nor time.
    After PL_NOT_TOML, *line and *column say where the token begins that is wrong, or the first bytes are that are not
    UTF-8, and out[0..*written) is the name of what was expected there, as far as there is room.
 
    No pointer may be null, also for a length or a capacity of 0. The areas of text, out, written, line and column may
    not overlap. The call keeps no pointer. */
-uint32_t prettyless_toml(const uint8_t *text, size_t length, size_t width, uint32_t indent, size_t limit, uint8_t *out,
-                         size_t capacity, size_t *written, size_t *line, size_t *column);
+uint32_t prettyless_layout_toml(const uint8_t *text, size_t length, size_t width, uint32_t indent, size_t limit,
+                                uint8_t *out, size_t capacity, size_t *written, size_t *line, size_t *column);
 
 #ifdef __cplusplus
 }
@@ -652,29 +655,25 @@ static inline void pl_include(pl_doc *doc, const pl_doc *other)
 
 /* ---- Laying out into a string ---- */
 
-/* How a document is laid out. */
+/* How a document or a text is laid out within a width. Zero is the default of each field: begin with PL_OPTIONS_INIT,
+   or name those that differ, as `const pl_options options = {.deferred = true, .limit = 1 << 20};`. A null pointer is
+   for all defaults. Later versions may add fields at the end, whose zero changes nothing. */
 typedef struct pl_options {
-    size_t width;  /* the width of lines in columns */
-    bool crlf;     /* lines end in CR LF, else in LF */
-    bool deferred; /* false: an empty line inside a nest has its indent, as trailing spaces; true: it has none */
-    size_t limit;  /* the greatest length of the layout in bytes, 0 for none; for what it does not bound, see
-                      prettyless_layout */
+    size_t limit;          /* the greatest length of the layout in bytes, 0 for none; "Limits" in docs/BINDINGS.md says
+                              what it does not bound */
+    uint32_t indent;       /* JSON: how many columns each level is further in. TOML: the members of a broken array. 0 is
+                              for 2 columns, PL_NO_INDENT for none */
+    bool crlf;             /* documents: lines end in CR LF, else in LF */
+    bool deferred;         /* documents: an empty line inside a nest has no indent, else it has trailing spaces */
+    bool fill;             /* JSON: arrays of numbers fill their lines */
+    bool keep_blank_lines; /* JSON: blank lines between members stay where lines are broken, of several one */
 } pl_options;
 
-/* How a JSON text is laid out. */
-typedef struct pl_json_options {
-    size_t width;    /* the width of lines in columns */
-    uint32_t indent; /* how many columns each level is indented by */
-    bool fill;       /* arrays of numbers fill their lines */
-    size_t limit;    /* the greatest length of the layout in bytes, 0 for none */
-} pl_json_options;
+/* The options to begin with. */
+#define PL_OPTIONS_INIT {0, 0, false, false, false, false}
 
-/* How a TOML text is laid out. */
-typedef struct pl_toml_options {
-    size_t width;    /* the width of lines in columns */
-    uint32_t indent; /* how many columns the members of a broken array are further in than its brackets */
-    size_t limit;    /* the greatest length of the layout in bytes, 0 for none; it bounds neither memory nor time */
-} pl_toml_options;
+/* The indent of no columns, for pl_options. */
+#define PL_NO_INDENT UINT32_MAX
 
 /* What comes of a layout. The caller frees `text`, at each status. */
 typedef struct pl_result {
@@ -688,26 +687,18 @@ typedef struct pl_result {
     size_t column;   /* PL_NOT_JSON, PL_NOT_TOML: its column there, in characters from 1; else 0 */
 } pl_result;
 
-/* These options: lines of so many columns that end in LF, indents written at once, no limit. Other fields are set
-   afterwards: `pl_options o = pl_width(60); o.limit = 1 << 20;`. */
-static inline pl_options pl_width(size_t width)
+/* The options that a pointer names. */
+static inline pl_options pl_options_(const pl_options *options)
 {
-    const pl_options options = {width, false, false, 0};
-    return options;
+    const pl_options defaults = PL_OPTIONS_INIT;
+    return options != NULL ? *options : defaults;
 }
 
-/* These options: lines of so many columns, an indent of 2, arrays not filled, no limit. */
-static inline pl_json_options pl_json_width(size_t width)
+/* The indent that options name, in columns. */
+static inline uint32_t pl_indent_(const pl_options *options)
 {
-    const pl_json_options options = {width, 2, false, 0};
-    return options;
-}
-
-/* These options: lines of so many columns, an indent of 2, no limit. */
-static inline pl_toml_options pl_toml_width(size_t width)
-{
-    const pl_toml_options options = {width, 2, 0};
-    return options;
+    if (options->indent == PL_NO_INDENT) return 0;
+    return options->indent != 0 ? options->indent : 2;
 }
 
 /* Room for a layout at first: indents may make it longer than what it is made of. */
@@ -747,56 +738,60 @@ static inline void pl_finish_(pl_result *result)
     result->text[result->length] = '\0';
 }
 
-/* Lays out a document. The library is called once, and again only where the layout, or what comes before a node that
-   fails, is more than twice as long as the program (and 256 bytes). The status is PL_MEMORY if the document was refused
-   memory. */
-static inline pl_result pl_layout(const pl_doc *doc, pl_options options)
+/* Lays out a document within lines of so many columns; `options` may be null. The library is called once, and again
+   only where the layout, or what comes before a node that fails, is more than twice as long as the program (and 256
+   bytes). The status is PL_MEMORY if the document was refused memory. */
+static inline pl_result pl_layout(const pl_doc *doc, size_t width, const pl_options *options)
 {
     const uint8_t *program = doc->bytes != NULL ? doc->bytes : (const uint8_t *)"";
+    const pl_options o = pl_options_(options);
     pl_result result = {PL_MEMORY, NULL, 0, 0, 0};
     size_t capacity, wanted = pl_capacity_(doc->length);
     if (doc->refused) return result;
     do {
         capacity = wanted;
         if (!pl_reserve_(&result, capacity)) return result;
-        result.status =
-            prettyless_layout(program, doc->length, options.width, options.crlf, options.deferred, options.limit,
-                              (uint8_t *)result.text, capacity, &result.length);
+        result.status = prettyless_layout(program, doc->length, width, o.crlf, o.deferred, o.limit,
+                                          (uint8_t *)result.text, capacity, &result.length);
         wanted = pl_wanted_(&result, capacity);
     } while (wanted != 0);
     pl_finish_(&result);
     return result;
 }
 
-/* Lays out a JSON text of so many bytes. `json` may be null if the length is 0. */
-static inline pl_result pl_json_layout(const char *json, size_t length, pl_json_options options)
+/* Lays out a JSON text of so many bytes within lines of so many columns. `json` may be null if the length is 0, and so
+   may `options`. */
+static inline pl_result pl_layout_json(const char *json, size_t length, size_t width, const pl_options *options)
 {
     const uint8_t *bytes = (const uint8_t *)(json != NULL ? json : "");
+    const pl_options o = pl_options_(options);
     pl_result result = {PL_MEMORY, NULL, 0, 0, 0};
     size_t capacity, wanted = pl_capacity_(length);
     do {
         capacity = wanted;
         if (!pl_reserve_(&result, capacity)) return result;
-        result.status =
-            prettyless_json_layout(bytes, length, options.width, options.indent, options.fill, options.limit,
-                                   (uint8_t *)result.text, capacity, &result.length, &result.line, &result.column);
+        result.status = prettyless_layout_json(bytes, length, width, pl_indent_(&o), o.fill, o.keep_blank_lines,
+                                               o.limit, (uint8_t *)result.text, capacity, &result.length,
+                                               &result.line, &result.column);
         wanted = pl_wanted_(&result, capacity);
     } while (wanted != 0);
     pl_finish_(&result);
     return result;
 }
 
-/* Lays out a TOML text of so many bytes. `toml` may be null if the length is 0. */
-static inline pl_result pl_toml_layout(const char *toml, size_t length, pl_toml_options options)
+/* Lays out a TOML text of so many bytes within lines of so many columns. `toml` may be null if the length is 0, and so
+   may `options`. */
+static inline pl_result pl_layout_toml(const char *toml, size_t length, size_t width, const pl_options *options)
 {
     const uint8_t *bytes = (const uint8_t *)(toml != NULL ? toml : "");
+    const pl_options o = pl_options_(options);
     pl_result result = {PL_MEMORY, NULL, 0, 0, 0};
     size_t capacity, wanted = pl_capacity_(length);
     do {
         capacity = wanted;
         if (!pl_reserve_(&result, capacity)) return result;
-        result.status = prettyless_toml(bytes, length, options.width, options.indent, options.limit,
-                                        (uint8_t *)result.text, capacity, &result.length, &result.line, &result.column);
+        result.status = prettyless_layout_toml(bytes, length, width, pl_indent_(&o), o.limit, (uint8_t *)result.text,
+                                               capacity, &result.length, &result.line, &result.column);
         wanted = pl_wanted_(&result, capacity);
     } while (wanted != 0);
     pl_finish_(&result);

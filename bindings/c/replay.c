@@ -264,12 +264,9 @@ static bool is_end(word rest)
     return memcmp(rest.at, "=>", 2) == 0 && (rest.length == 2 || rest.at[2] == ' ');
 }
 
-static bool read_case(word line, nodes *open, pl_doc *doc, pl_options *options)
+static bool read_case(word line, nodes *open, pl_doc *doc, uint64_t *width, pl_options *options)
 {
-    uint64_t width;
-    if (!read_number(&line, &width)) return false;
-    *options = pl_width(width);
-    return read_choice(&line, "lf", "crlf", &options->crlf) &&
+    return read_number(&line, width) && read_choice(&line, "lf", "crlf", &options->crlf) &&
            read_choice(&line, "eager", "deferred", &options->deferred) && read_document(&line, open, doc) &&
            is_end(line);
 }
@@ -288,14 +285,15 @@ static void answer(const char *name, const pl_result *layout)
 
 static void answer_line(word line, nodes *open, pl_doc *doc)
 {
-    pl_options options;
+    uint64_t width;
+    pl_options options = PL_OPTIONS_INIT;
     pl_result layout;
     pl_clear(doc);
-    if (!read_case(line, open, doc, &options)) {
+    if (!read_case(line, open, doc, &width, &options)) {
         puts("error");
         return;
     }
-    layout = pl_layout(doc, options);
+    layout = pl_layout(doc, width, &options);
     if (layout.status == PL_MEMORY) out_of_memory();
     if (layout.status == PL_OK) answer("ok", &layout);
     else if (layout.status == PL_FAILS) answer("fail", &layout);

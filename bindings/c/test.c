@@ -115,7 +115,7 @@ static bool is(pl_result result, uint32_t status, const char *text)
     return same;
 }
 
-#define SHOWS(width, text) CHECK(is(pl_layout(&doc, pl_width(width)), PL_OK, text))
+#define SHOWS(width, text) CHECK(is(pl_layout(&doc, width, NULL), PL_OK, text))
 
 static void call(pl_doc *doc)
 {
@@ -171,7 +171,7 @@ static void test_groups(void)
 static void test_indents(void)
 {
     pl_doc doc = PL_DOC_INIT;
-    pl_options late = pl_width(80);
+    pl_options late = PL_OPTIONS_INIT;
     pl_text(&doc, "sum = ");
     pl_open(&doc);
     pl_text(&doc, "one");
@@ -190,9 +190,9 @@ static void test_indents(void)
     pl_close_nest(&doc, 2);
     SHOWS(80, "a\n  \n  b");
     late.deferred = true;
-    CHECK(is(pl_layout(&doc, late), PL_OK, "a\n\n  b"));
+    CHECK(is(pl_layout(&doc, 80, &late), PL_OK, "a\n\n  b"));
     late.crlf = true;
-    CHECK(is(pl_layout(&doc, late), PL_OK, "a\r\n\r\n  b"));
+    CHECK(is(pl_layout(&doc, 80, &late), PL_OK, "a\r\n\r\n  b"));
     pl_free(&doc);
 }
 
@@ -293,21 +293,21 @@ static void test_areas(void)
 static void test_long_layouts(void)
 {
     pl_doc doc = PL_DOC_INIT;
-    pl_options options = pl_width(80);
+    pl_options options = PL_OPTIONS_INIT;
     pl_result result;
     pl_open(&doc);
     pl_hard_line(&doc);
     pl_text(&doc, "a");
     pl_close_nest(&doc, 5000);
-    result = pl_layout(&doc, options);
+    result = pl_layout(&doc, 80, &options);
     CHECK(result.status == PL_OK && result.length == 5002 && strlen(result.text) == 5002 && result.text[5001] == 'a');
     free(result.text);
     options.limit = 5001;
-    result = pl_layout(&doc, options);
+    result = pl_layout(&doc, 80, &options);
     CHECK(result.status == PL_PAST_LIMIT && result.length <= 5001 && strspn(result.text, "\n ") == result.length);
     free(result.text);
     pl_fail(&doc);
-    result = pl_layout(&doc, pl_width(80));
+    result = pl_layout(&doc, 80, NULL);
     CHECK(result.status == PL_FAILS && result.length == 5002 && strlen(result.text) == 5002);
     free(result.text);
     pl_free(&doc);
@@ -318,13 +318,13 @@ static void test_long_layouts(void)
 static void test_json(void)
 {
     static const char json[] = "{\"name\":\"Ada\",\"list\":[1,22,333],\"empty\":{}}";
-    pl_result result = pl_json_layout(json, sizeof json - 1, pl_json_width(24));
+    pl_result result = pl_layout_json(json, sizeof json - 1, 24, NULL);
     CHECK(result.line == 0 && result.column == 0);
     CHECK(is(result, PL_OK, "{\n  \"name\": \"Ada\",\n  \"list\": [1, 22, 333],\n  \"empty\": {}\n}\n"));
-    result = pl_json_layout("[1,\n \"\xc3\xa9\" 2]", 11, pl_json_width(80));
+    result = pl_layout_json("[1,\n \"\xc3\xa9\" 2]", 11, 80, NULL);
     CHECK(result.line == 2 && result.column == 6);
     CHECK(is(result, PL_NOT_JSON, "`,` or `]`"));
-    CHECK(is(pl_json_layout(NULL, 0, pl_json_width(80)), PL_NOT_JSON, "a value"));
+    CHECK(is(pl_layout_json(NULL, 0, 80, NULL), PL_NOT_JSON, "a value"));
 }
 
 /* Of lists in lists: so many levels are JSON here, one more is not. */
@@ -336,12 +336,41 @@ static void test_json_depth(void)
     pl_result result;
     memset(json, '[', LEVELS + 1);
     memset(json + LEVELS + 1, ']', LEVELS + 1);
-    result = pl_json_layout(json + 1, 2 * LEVELS, pl_json_width(SIZE_MAX));
+    result = pl_layout_json(json + 1, 2 * LEVELS, SIZE_MAX, NULL);
     CHECK(result.status == PL_OK && result.length == 2 * LEVELS + 1);
     free(result.text);
-    result = pl_json_layout(json, 2 * LEVELS + 2, pl_json_width(SIZE_MAX));
+    result = pl_layout_json(json, 2 * LEVELS + 2, SIZE_MAX, NULL);
     CHECK(result.status == PL_NOT_JSON && result.line == 1 && result.column == LEVELS + 1);
     free(result.text);
+}
+
+/* Each option of JSON, and its default. */
+static void test_json_options(void)
+{
+    static const char json[] = "[1,\n\n\n2,333]";
+    pl_options options = PL_OPTIONS_INIT;
+    CHECK(is(pl_layout_json(json, sizeof json - 1, 9, &options), PL_OK, "[\n  1,\n  2,\n  333\n]\n"));
+    options.indent = 3;
+    CHECK(is(pl_layout_json(json, sizeof json - 1, 9, &options), PL_OK, "[\n   1,\n   2,\n   333\n]\n"));
+    options.indent = PL_NO_INDENT;
+    CHECK(is(pl_layout_json(json, sizeof json - 1, 9, &options), PL_OK, "[\n1,\n2,\n333\n]\n"));
+    options.keep_blank_lines = true;
+    CHECK(is(pl_layout_json(json, sizeof json - 1, 9, &options), PL_OK, "[\n1,\n\n2,\n333\n]\n"));
+    options.keep_blank_lines = false;
+    options.indent = 0;
+    options.fill = true;
+    CHECK(is(pl_layout_json(json, sizeof json - 1, 9, &options), PL_OK, "[\n  1, 2,\n  333\n]\n"));
+    options.limit = 18;
+    CHECK(is(pl_layout_json(json, sizeof json - 1, 9, &options), PL_OK, "[\n  1, 2,\n  333\n]\n"));
+    options.limit = 17;
+    CHECK(is(pl_layout_json(json, sizeof json - 1, 9, &options), PL_PAST_LIMIT, "[\n  1, 2,\n  333\n]"));
+}
+
+/* What the call for JSON answers for an area of two bytes. */
+static uint32_t json_status(const char *json, size_t limit, uint8_t *out, size_t *written, size_t *line, size_t *column)
+{
+    const uint8_t *text = (const uint8_t *)json;
+    return prettyless_layout_json(text, strlen(json), 80, 2, false, false, limit, out, 2, written, line, column);
 }
 
 /* No more is said to be written than there is room for. */
@@ -349,12 +378,11 @@ static void test_json_areas(void)
 {
     uint8_t out[2];
     size_t written, line, column;
-    const uint8_t *list = (const uint8_t *)"[1, 2]", *open = (const uint8_t *)"[1,";
-    CHECK(prettyless_json_layout(list, 6, 80, 2, false, 0, out, 2, &written, &line, &column) == PL_TOO_SMALL);
+    CHECK(json_status("[1, 2]", 0, out, &written, &line, &column) == PL_TOO_SMALL);
     CHECK(written == 7 && memcmp(out, "[1", 2) == 0 && line == 0 && column == 0);
-    CHECK(prettyless_json_layout(list, 6, 80, 2, false, 6, out, 2, &written, &line, &column) == PL_PAST_LIMIT);
+    CHECK(json_status("[1, 2]", 6, out, &written, &line, &column) == PL_PAST_LIMIT);
     CHECK(written <= 2);
-    CHECK(prettyless_json_layout(open, 3, 80, 2, false, 0, out, 2, &written, &line, &column) == PL_NOT_JSON);
+    CHECK(json_status("[1,", 0, out, &written, &line, &column) == PL_NOT_JSON);
     CHECK(written <= 2 && line == 1 && column == 4);
 }
 
@@ -363,12 +391,12 @@ static void test_json_areas(void)
 static void test_toml(void)
 {
     static const char toml[] = "# first\nname=\"Ada\"\nlist=[1,22,333]#last\n[ empty ]\n";
-    pl_result result = pl_toml_layout(toml, sizeof toml - 1, pl_toml_width(16));
+    pl_result result = pl_layout_toml(toml, sizeof toml - 1, 16, NULL);
     CHECK(result.line == 0 && result.column == 0);
-    CHECK(is(result, PL_OK, "# first\nname = \"Ada\"\nlist = [\n  1,\n  22,\n  333,\n] #last\n[empty]\n"));
-    CHECK(is(pl_toml_layout("a=1\r\nb=2", 8, pl_toml_width(80)), PL_OK, "a = 1\r\nb = 2\r\n"));
-    CHECK(is(pl_toml_layout(NULL, 0, pl_toml_width(80)), PL_OK, ""));
-    result = pl_toml_layout("a = 1\n\"\xc3\xa9\" = [1 2]", 18, pl_toml_width(80));
+    CHECK(is(result, PL_OK, "# first\nname = \"Ada\"\nlist = [\n  1, 22, 333,\n] #last\n[empty]\n"));
+    CHECK(is(pl_layout_toml("a=1\r\nb=2", 8, 80, NULL), PL_OK, "a = 1\r\nb = 2\r\n"));
+    CHECK(is(pl_layout_toml(NULL, 0, 80, NULL), PL_OK, ""));
+    result = pl_layout_toml("a = 1\n\"\xc3\xa9\" = [1 2]", 18, 80, NULL);
     CHECK(result.line == 2 && result.column == 10);
     CHECK(is(result, PL_NOT_TOML, "`,` or `]`"));
 }
@@ -381,14 +409,27 @@ static void test_toml_depth(void)
     memcpy(toml, "a=", 2);
     memset(toml + 2, '[', 128);
     memset(toml + 130, ']', 128);
-    result = pl_toml_layout(toml, 258, pl_toml_width(SIZE_MAX));
+    result = pl_layout_toml(toml, 258, SIZE_MAX, NULL);
     CHECK(result.status == PL_OK && result.length == 261);
     free(result.text);
     memset(toml + 2, '[', 129);
     memset(toml + 131, ']', 129);
-    result = pl_toml_layout(toml, 260, pl_toml_width(SIZE_MAX));
+    result = pl_layout_toml(toml, 260, SIZE_MAX, NULL);
     CHECK(result.status == PL_NOT_TOML && result.line == 1 && result.column == 131);
     free(result.text);
+}
+
+/* Each option of TOML, and its default. */
+static void test_toml_options(void)
+{
+    pl_options options = PL_OPTIONS_INIT;
+    CHECK(is(pl_layout_toml("a=[1,2]", 7, 9, &options), PL_OK, "a = [\n  1, 2,\n]\n"));
+    options.indent = 1;
+    CHECK(is(pl_layout_toml("a=[1,2]", 7, 9, &options), PL_OK, "a = [\n 1, 2,\n]\n"));
+    options.indent = PL_NO_INDENT;
+    CHECK(is(pl_layout_toml("a=[1,2]", 7, 9, &options), PL_OK, "a = [\n1, 2,\n]\n"));
+    options.limit = 3;
+    CHECK(is(pl_layout_toml("a=[1,2]", 7, 9, &options), PL_PAST_LIMIT, "a ="));
 }
 
 /* No more is said to be written than there is room for. */
@@ -397,11 +438,11 @@ static void test_toml_areas(void)
     uint8_t out[2];
     size_t written, line, column;
     const uint8_t *one = (const uint8_t *)"a=1", *open = (const uint8_t *)"a=";
-    CHECK(prettyless_toml(one, 3, 80, 2, 0, out, 2, &written, &line, &column) == PL_TOO_SMALL);
+    CHECK(prettyless_layout_toml(one, 3, 80, 2, 0, out, 2, &written, &line, &column) == PL_TOO_SMALL);
     CHECK(written == 6 && memcmp(out, "a ", 2) == 0 && line == 0 && column == 0);
-    CHECK(prettyless_toml(one, 3, 80, 2, 5, out, 2, &written, &line, &column) == PL_PAST_LIMIT);
+    CHECK(prettyless_layout_toml(one, 3, 80, 2, 5, out, 2, &written, &line, &column) == PL_PAST_LIMIT);
     CHECK(written <= 2);
-    CHECK(prettyless_toml(open, 2, 80, 2, 0, out, 2, &written, &line, &column) == PL_NOT_TOML);
+    CHECK(prettyless_layout_toml(open, 2, 80, 2, 0, out, 2, &written, &line, &column) == PL_NOT_TOML);
     CHECK(written <= 2 && line == 1 && column == 3);
 }
 
@@ -411,13 +452,13 @@ static void test_toml_areas(void)
 static bool is_refused(pl_doc *doc)
 {
     bool all = doc->refused && doc->bytes == NULL;
-    pl_result result = pl_layout(doc, pl_width(80));
+    pl_result result = pl_layout(doc, 80, NULL);
     all = all && result.status == PL_MEMORY && result.text == NULL && result.length == 0;
     pl_text(doc, "a");
     all = all && doc->refused && doc->length == 0;
     pl_clear(doc);
     pl_text(doc, "a");
-    all = all && is(pl_layout(doc, pl_width(80)), PL_OK, "a");
+    all = all && is(pl_layout(doc, 80, NULL), PL_OK, "a");
     pl_free(doc);
     return all;
 }
@@ -448,7 +489,7 @@ static void test_memory(void)
         int i;
         granted = n;
         for (i = 0; i < 100; i++) call(&doc);
-        result = pl_layout(&doc, pl_width(6));
+        result = pl_layout(&doc, 6, NULL);
         status = result.status;
         CHECK(granted > 0 || doc.refused == (doc.bytes == NULL));
         granted = (size_t)-1;
@@ -481,9 +522,11 @@ int main(void)
     test_long_layouts();
     test_json();
     test_json_depth();
+    test_json_options();
     test_json_areas();
     test_toml();
     test_toml_depth();
+    test_toml_options();
     test_toml_areas();
     test_lengths();
     test_memory();

@@ -40,7 +40,8 @@ void say_case(void)
     if (request->kind == PROGRAM) {
         fprintf(stderr, "crlf %d, deferred %d", request->crlf, request->deferred);
     } else {
-        fprintf(stderr, "indent %u, fill %d", request->indent, request->fill);
+        fprintf(stderr, "indent %u, fill %d, keep_blank_lines %d", request->indent, request->fill,
+                request->keep_blank_lines);
     }
     fprintf(stderr, ", %zu bytes:\n", request->given->length);
     say_bytes(request->given);
@@ -196,12 +197,13 @@ static uint32_t status_of(const Request *request, Answer *answer)
     const Bytes *given = request->given;
     switch (request->kind) {
     case JSON:
-        return prettyless_json_layout(given->at, given->length, request->width, request->indent, request->fill,
-                                      request->limit, answer->out, answer->capacity, &answer->written, &answer->line,
-                                      &answer->column);
+        return prettyless_layout_json(given->at, given->length, request->width, request->indent, request->fill,
+                                      request->keep_blank_lines, request->limit, answer->out, answer->capacity,
+                                      &answer->written, &answer->line, &answer->column);
     case TOML:
-        return prettyless_toml(given->at, given->length, request->width, request->indent, request->limit, answer->out,
-                               answer->capacity, &answer->written, &answer->line, &answer->column);
+        return prettyless_layout_toml(given->at, given->length, request->width, request->indent, request->limit,
+                                      answer->out, answer->capacity, &answer->written, &answer->line,
+                                      &answer->column);
     default:
         return prettyless_layout(given->at, given->length, request->width, request->crlf, request->deferred,
                                  request->limit, answer->out, answer->capacity, &answer->written);

@@ -20,7 +20,7 @@ typedef struct {
     /* Of a text alone. */
     uint32_t indent;
     /* Of a JSON text alone. */
-    bool fill;
+    bool fill, keep_blank_lines;
 } Request;
 
 /* What came of it. `out` has `capacity` bytes, within an area that `release_answer` gives back. */

@@ -140,6 +140,7 @@ static uint32_t check_text(Random *random, Request *request, bool is_whole)
     bool may_be_long = once_in(random, 1000);
     request->indent = (uint32_t)(may_be_long ? next_number(random) : below(random, 9));
     request->fill = once_in(random, 2);
+    request->keep_blank_lines = once_in(random, 2);
     /* A layout of gigabytes is counted to its end where nothing limits it, and no area has room for it. */
     if (may_be_long) {
         request->limit = any_limit(random, true);

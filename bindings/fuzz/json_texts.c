@@ -23,7 +23,7 @@ static const char *const scalars[] = {
     "\"\xf0\x9f\x98\x80\"",
 };
 static const char *const names[] = {"\"\"", "\"a\"", "\"name\"", "\"\xc3\xa9\"", "\"a longer name\"", "\"\\u0061\""};
-static const char *const spaces[] = {"", "", "", "", " ", "\n", "\r\n", "\t", "   "};
+static const char *const spaces[] = {"", "", "", "", " ", "\n", "\r\n", "\t", "   ", "\n\n", "\n \r\n\n"};
 static const char *const parts[] = {
     "[", "]", "{", "}",   ",",    ":",  "\"", "\\",   "\\u",  "-",    ".",
     "e", "0", "1", "nul", "true", "//", "'",  "\xff", "\xc3", "\x01",

@@ -112,13 +112,13 @@ export function printerOf(module) {
             return calls.laid("prettyless_layout", program, options, limitOf(limit));
         },
 
-        formatJson(text, { width = 80, indent = 2, fill = false, limit } = {}) {
-            const options = [widthOf(width), indentOf(indent), fill ? 1 : 0];
-            return calls.laid("prettyless_json_layout", bytesOf(text), options, limitOf(limit));
+        formatJson(text, { width = 80, indent = 2, fill = false, keepBlankLines = false, limit } = {}) {
+            const options = [widthOf(width), indentOf(indent), fill ? 1 : 0, keepBlankLines ? 1 : 0];
+            return calls.laid("prettyless_layout_json", bytesOf(text), options, limitOf(limit));
         },
 
         formatToml(text, { width = 80, indent = 2, limit } = {}) {
-            return calls.laid("prettyless_toml", bytesOf(text), [widthOf(width), indentOf(indent)], limitOf(limit));
+            return calls.laid("prettyless_layout_toml", bytesOf(text), [widthOf(width), indentOf(indent)], limitOf(limit));
         },
     });
 }

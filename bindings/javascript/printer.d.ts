@@ -120,6 +120,8 @@ export interface TextOptions {
 export interface JsonOptions extends TextOptions {
     /** Whether arrays of numbers fill their lines. */
     fill?: boolean;
+    /** Whether blank lines between members stay where lines are broken, of several one. */
+    keepBlankLines?: boolean;
 }
 
 export interface Printer {

@@ -315,8 +315,11 @@ describe("JSON and TOML", () => {
         assert.equal(y.formatJson('{"a":[1,2],"b":null}', { width: 16 }), '{\n  "a": [1, 2],\n  "b": null\n}\n');
         const numbers = new TextEncoder().encode("[1, 2, 3, 4, 5, 6]");
         assert.equal(y.formatJson(numbers, { width: 12, indent: 4, fill: true }), "[\n    1, 2, 3,\n    4, 5, 6\n]\n");
+        const spaced = '{"a":\n\n1,\n\n\n"b": [2,\n\n3]\n\n}';
+        assert.equal(y.formatJson(spaced, { width: 13 }), '{\n  "a": 1,\n  "b": [2, 3]\n}\n');
+        assert.equal(y.formatJson(spaced, { width: 13, keepBlankLines: true }), '{\n  "a": 1,\n\n  "b": [2, 3]\n}\n');
         assert.equal(y.formatToml("a=[1,2] # two"), "a = [1, 2] # two\n");
-        assert.equal(y.formatToml("a=[1,22,333]", { width: 14, indent: 4 }), "a = [\n    1,\n    22,\n    333,\n]\n");
+        assert.equal(y.formatToml("a=[1,22,333]", { width: 14, indent: 4 }), "a = [\n    1, 22,\n    333,\n]\n");
     });
 
     test("faults", () => {

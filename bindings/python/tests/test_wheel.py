@@ -79,9 +79,52 @@ class Wheel(unittest.TestCase):
     def test_no_library(self):
         status, shown, complaint = self.run_script(["new"], "none.so")
         self.assertEqual((status, shown), (1, ""))
-        self.assertTrue(complaint.startswith("make_wheel: no library at none.so"), complaint)
+        self.assertTrue(complaint.startswith("make_wheel: there is no library at "), complaint)
+        self.assertIn("tools/install library", complaint)
         self.assertEqual(complaint.count("\n"), 1)
         self.assertFalse(os.path.exists(os.path.join(self.folder.name, "new")))
+
+    def test_the_oldest_machine_is_in_the_tag(self):
+        code = bytearray(20)
+        code[:6], code[18:] = b"\x7fELF\x02\x01", b"\x3e\x00"
+        for needs, platform in {
+            b"": "manylinux2014_x86_64",
+            b"\0GLIBC_2.2.5\0GLIBC_2.14\0": "manylinux2014_x86_64",
+            b"\0GLIBC_2.17\0GLIBC_2.2.5\0": "manylinux2014_x86_64",
+            b"\0GLIBC_2.34\0GLIBC_2.4\0": "manylinux_2_34_x86_64",
+        }.items():
+            self.assertEqual(make_wheel.tag(bytes(code) + needs), "py3-none-" + platform)
+        code[18] = 0xB7
+        with self.assertRaises(SystemExit):
+            make_wheel.tag(bytes(code))
+
+
+class Hooks(unittest.TestCase):
+    """What pip calls."""
+
+    def setUp(self):
+        self.folder = tempfile.TemporaryDirectory()
+        self.addCleanup(self.folder.cleanup)
+
+    def test_a_wheel(self):
+        name = make_wheel.build_wheel(self.folder.name)
+        self.assertEqual([name], os.listdir(self.folder.name))
+        self.assertTrue(name.startswith("yezhgulo-") and name.endswith("_x86_64.whl"), name)
+
+    def test_an_editable_wheel(self):
+        name = make_wheel.build_editable(self.folder.name)
+        self.assertTrue(name.endswith("-py3-none-any.whl"), name)
+        with zipfile.ZipFile(os.path.join(self.folder.name, name)) as wheel:
+            self.assertEqual(wheel.read("yezhgulo.pth").decode(), HERE + "\n")
+
+    def test_a_library_says_that_it_is_unproved(self):
+        library = os.path.join(self.folder.name, "libprettyless.so")
+        self.assertFalse(make_wheel.is_unproved(library))
+        os.mkdir(os.path.join(self.folder.name, "pkgconfig"))
+        for proofs, is_unproved in (" whose layouts are proved", False), (", built without its proofs", True):
+            with open(os.path.join(self.folder.name, "pkgconfig", "prettyless.pc"), "w") as file:
+                file.write(f"Name: prettyless\nDescription: A pretty printer{proofs}\n")
+            self.assertEqual(make_wheel.is_unproved(library), is_unproved)
 
 
 if __name__ == "__main__":

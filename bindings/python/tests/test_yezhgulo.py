@@ -120,6 +120,36 @@ GUIDE = {
 }
 
 
+# What is its own `repr`.
+REPRS = (
+    "nil",
+    "fail",
+    "weak_space",
+    "line",
+    "line_or_nil",
+    "softline",
+    "softline_or_nil",
+    "hard_line",
+    "weak_line",
+    "expand_parent",
+    "text('it\\n')",
+    "ascii_text('a')",
+    "text_of_width('語', 2)",
+    "multiline_text('a\\nb')",
+    "concat()",
+    "concat('a', line, concat('b', 'c'))",
+    "group('f(', nest(-2, line_or_nil, 'x'), ')')",
+    "flatten(align(dedent_to_root(line_suffix(group()))))",
+    "flat_alt(',', nil)",
+    "union(group('a', line), partial_union('b', fail))",
+    "if_column_at_most(1, 'a', 'b')",
+    "if_column_at_least(18446744073709551615, 'a', 'b')",
+    "if_column_is_nesting('a', 'b')",
+    "if_nesting_at_most(3, 'a', 'b')",
+    "if_nesting_at_least(4, 'a', 'b')",
+)
+
+
 class Guide(unittest.TestCase):
     def test_layouts(self):
         for name, (doc, layouts) in GUIDE.items():
@@ -279,8 +309,23 @@ class Values(unittest.TestCase):
         doc = group("a" * 40, line, "b" * 39)
         self.assertEqual(str(doc), doc.layout(80))
         self.assertEqual(f"{doc}", "a" * 40 + " " + "b" * 39)
-        self.assertEqual(repr(text("abc")), "<Doc of 8 bytes>")
-        self.assertEqual(repr(text("x" * 5000)), "<Doc of 1024 or more bytes>")
+
+    def test_repr_is_the_calls(self):
+        for calls in REPRS:
+            self.assertEqual(repr(eval(calls)), calls)
+        self.assertEqual(repr("a" + text("b") + line), "concat('a', 'b', line)")
+        self.assertEqual(repr("a" + (text("b") + "c")), "concat('a', concat('b', 'c'))")
+        self.assertEqual(repr(space), "text(' ')")
+        self.assertEqual(repr(group(line)), "softline")
+        self.assertEqual(repr(group(text("a") + "b")), "group('a', 'b')")
+
+    def test_repr_of_a_long_document(self):
+        self.assertEqual(repr(text("x" * 4091)), f"text({'x' * 4091!r})")
+        self.assertEqual(repr(text("x" * 4092)), "<Doc of more than 4096 bytes>")
+        doubled = text("x")
+        for _ in range(60):
+            doubled += doubled
+        self.assertEqual(repr(doubled), "<Doc of more than 4096 bytes>")
 
     def test_print(self):
         file = io.StringIO()
@@ -476,6 +521,12 @@ class Json(Texts, unittest.TestCase):
         self.assertEqual(format_json(text.encode(), 24, indent=0), layout.replace("  ", ""))
         self.assertEqual(format_json('["語"]'), '["語"]\n')
 
+    def test_blank_lines(self):
+        text = '{"a":\n\n1,\n\n\n"b": [2,\n\n3]\n\n}'
+        self.assertEqual(format_json(text, 13), '{\n  "a": 1,\n  "b": [2, 3]\n}\n')
+        self.assertEqual(format_json(text, 13, keep_blank_lines=True), '{\n  "a": 1,\n\n  "b": [2, 3]\n}\n')
+        self.assertEqual(format_json(text, 80, keep_blank_lines=True), '{"a": 1, "b": [2, 3]}\n')
+
     def test_a_layout_that_is_longer_than_was_guessed(self):
         text = "[" * 128 + "1" + "]" * 128
         begin = "".join(" " * 1000 * i + "[\n" for i in range(128))
@@ -501,7 +552,7 @@ class Toml(Texts, unittest.TestCase):
 
     def test_layouts(self):
         text = '# first\nname="Ada"\nlist=[1,22,333]#last\n[ empty ]\n'
-        broken = "[\n  1,\n  22,\n  333,\n]"
+        broken = "[\n  1, 22, 333,\n]"
         layout = f'# first\nname = "Ada"\nlist = {broken} #last\n[empty]\n'
         self.assertEqual(format_toml(text, 16), layout)
         self.assertEqual(format_toml(text.encode(), 16, indent=0), layout.replace("  ", ""))
@@ -574,7 +625,7 @@ class Depth(unittest.TestCase):
             doc = "y" + doc
         self.assertIs(copy.deepcopy(doc), doc)
         self.assertTrue(pickle.loads(pickle.dumps(doc)).layout() == "y" * 200_000 + "x")
-        self.assertEqual(repr(doc), f"<Doc of {_programs.SHORT} or more bytes>")
+        self.assertEqual(repr(doc), "<Doc of more than 4096 bytes>")
 
 
 class Names(unittest.TestCase):
@@ -595,7 +646,8 @@ class Names(unittest.TestCase):
 
 def load_tests(loader, tests, pattern):
     """The tests above, and the examples of the documentation."""
-    modules = (yezhgulo, yezhgulo.documents, yezhgulo.errors, yezhgulo.json_text, yezhgulo.toml_text)
+    modules = [yezhgulo, yezhgulo.documents, yezhgulo.errors, yezhgulo.json_text, yezhgulo.toml_text]
+    modules.append(yezhgulo.values)
     tests.addTests(doctest.DocTestSuite(module) for module in modules)
     tests.addTest(doctest.DocFileSuite(os.path.join(HERE, "README.md"), module_relative=False))
     return tests

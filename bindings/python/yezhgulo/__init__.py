@@ -59,7 +59,7 @@ a long sentence
 >>> print(show.layout(14))
 short
 
-A remark at the end of a line is a `line_suffix`, and `flat_alt`, `if_break` and `if_flat` differ between broken and
+A comment at the end of a line is a `line_suffix`, and `flat_alt`, `if_break` and `if_flat` differ between broken and
 flat lines. `help(yezhgulo.documents)` has a table of the constants, such as `line`, and an example of each function.
 
 `Doc.layout` answers a `str`, and `str(doc)` is the layout within 80 columns. Where a document has no layout it raises a
@@ -74,18 +74,28 @@ TOML text:
 >>> print(format_toml("a=[1,2] # two", 16), end="")
 a = [1, 2] # two
 
+`pprint` and `pformat` lay out values of Python. A class of your own says by `__pretty__` what it is:
+
+>>> pprint({"name": "Ada", "list": [1, 22, 333]}, 30)
+{
+    'name': 'Ada',
+    'list': [1, 22, 333],
+}
+
 Documents may be as deep as memory allows. The printer is a library, `libprettyless.so`, whose layouts are proved
 against a definition. The proof covers the library's calls, and not the code of this package.
 """
 
-from yezhgulo import documents, errors
+from yezhgulo import documents, errors, values
 from yezhgulo.documents import *
 from yezhgulo.errors import *
 from yezhgulo.json_text import format_json
 from yezhgulo.toml_text import format_toml
+from yezhgulo.values import *
 
 __version__ = "0.4.0"
 
 __all__ = ["format_json", "format_toml"]
 __all__ += documents.__all__
 __all__ += errors.__all__
+__all__ += values.__all__

@@ -6,10 +6,9 @@ import ctypes
 import os
 from typing import Any, Callable, Optional, Tuple, Type, Union
 
+from yezhgulo import _places
 from yezhgulo._arguments import number
 from yezhgulo.errors import JsonError, LayoutError, LimitError, ProgramError, TomlError
-
-_FILE = "libprettyless.so"
 
 # The statuses, apart from those of a program that writes no document.
 _LAID_OUT = 0
@@ -25,26 +24,22 @@ _NAME = 256
 
 
 def _path() -> str:
-    """The file of the library: the one that `PRETTYLESS` names, or the packed one, or the one of the repository."""
-    named = os.environ.get("PRETTYLESS")
-    if named:
-        return os.path.abspath(named)
+    """The file of the library: the one that `PRETTYLESS` names, the packed one, that of a checkout, or one installed."""
     here = os.path.dirname(os.path.abspath(__file__))
-    packed = os.path.join(here, _FILE)
-    built = os.path.join(os.path.dirname(os.path.dirname(here)), "out", _FILE)
-    for path in (packed, built):
-        if os.path.exists(path):
-            return path
-    raise ImportError(f"no {_FILE} at {packed} or {built}; the environment variable PRETTYLESS may name one")
+    packed = os.path.join(here, _places.FILE)
+    built = os.path.join(os.path.dirname(os.path.dirname(here)), "out", _places.FILE)
+    path = _places.found([packed, built])
+    if path is None:
+        raise ImportError(f"yezhgulo found no {_places.FILE}: {_places.HOW}")
+    return path
 
 
 def _open() -> ctypes.CDLL:
-    path = _path()
     try:
         # A call of a `CDLL` lets other threads run, and the library may be called by any number of them.
-        return ctypes.CDLL(path)
+        return ctypes.CDLL(_path())
     except OSError as error:
-        raise ImportError(f"the library was not loaded: {error}") from error
+        raise ImportError(f"yezhgulo could not load its library ({error}): {_places.HOW}") from error
 
 
 _size = ctypes.c_size_t
@@ -64,15 +59,18 @@ _Call = Callable[[Any, int, Any], int]
 
 def _function(name: str, *options: Any, places: int) -> _Function:
     """A function that takes bytes, a width, these options, a limit, an area, and places for so many numbers."""
-    function = getattr(_library, name)
+    try:
+        function = getattr(_library, name)
+    except AttributeError:
+        raise ImportError(f"the library of yezhgulo has no {name}, so it is of another version: {_places.HOW}") from None
     function.restype = ctypes.c_uint32
     function.argtypes = (ctypes.c_char_p, _size, _size, *options, _size, _area, _size, *[_size_out] * places)
     return function
 
 
 _layout = _function("prettyless_layout", ctypes.c_bool, ctypes.c_bool, places=1)
-_json_layout = _function("prettyless_json_layout", ctypes.c_uint32, ctypes.c_bool, places=3)
-_toml = _function("prettyless_toml", ctypes.c_uint32, places=3)
+_layout_json = _function("prettyless_layout_json", ctypes.c_uint32, ctypes.c_bool, ctypes.c_bool, places=3)
+_layout_toml = _function("prettyless_layout_toml", ctypes.c_uint32, places=3)
 
 
 def _limit(limit: Optional[int]) -> int:
@@ -151,11 +149,13 @@ def _text_layout(
     return str(laid, "utf-8")
 
 
-def json_layout(text: bytes, width: int, indent: int, fill: bool, limit: Optional[int]) -> str:
+def layout_json(
+    text: bytes, width: int, indent: int, fill: bool, keep_blank_lines: bool, limit: Optional[int]
+) -> str:
     """The layout of a JSON text."""
-    return _text_layout(_json_layout, JsonError, text, width, indent, fill, limit=limit)
+    return _text_layout(_layout_json, JsonError, text, width, indent, fill, keep_blank_lines, limit=limit)
 
 
-def toml_layout(text: bytes, width: int, indent: int, limit: Optional[int]) -> str:
+def layout_toml(text: bytes, width: int, indent: int, limit: Optional[int]) -> str:
     """The layout of a TOML text."""
-    return _text_layout(_toml, TomlError, text, width, indent, limit=limit)
+    return _text_layout(_layout_toml, TomlError, text, width, indent, limit=limit)

@@ -111,6 +111,19 @@ def in_order(parts: List[Code]) -> Code:
     return whole if len(whole) < SHORT else (whole, b"")
 
 
+def is_longer(code: Code, most: int) -> bool:
+    """Whether a code has more than so many bytes. It looks no further than that."""
+    left = most
+    todo: List[Code] = [code]
+    while todo and left >= 0:
+        part = todo.pop()
+        if isinstance(part, bytes):
+            left -= len(part)
+        else:
+            todo.extend(part)
+    return left < 0
+
+
 def program_of(code: Code) -> bytes:
     """The bytes of a code."""
     if isinstance(code, bytes):

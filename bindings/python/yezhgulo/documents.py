@@ -28,6 +28,7 @@ from yezhgulo import _library
 from yezhgulo import _programs as code
 from yezhgulo._arguments import number, whole
 from yezhgulo._programs import Code
+from yezhgulo._shown import shown
 
 __all__ = [
     "Doc",
@@ -148,14 +149,14 @@ class Doc:
         return self.layout()
 
     def __repr__(self) -> str:
-        """How long the program is.
+        """The calls that make the document, or only that it is long.
 
-        >>> text("abc")
-        <Doc of 8 bytes>
+        >>> group("f(", nest(2, line_or_nil, "x") + flat_alt(",", nil), line_or_nil, ")")
+        group('f(', concat(nest(2, line_or_nil, 'x'), flat_alt(',', nil)), line_or_nil, ')')
         """
-        if isinstance(self._code, bytes):
-            return f"<Doc of {len(self._code)} bytes>"
-        return f"<Doc of {code.SHORT} or more bytes>"
+        if code.is_longer(self._code, _SHOWN):
+            return f"<Doc of more than {_SHOWN} bytes>"
+        return shown(code.program_of(self._code))
 
     def __add__(self, other: DocLike) -> Doc:
         return _both(self, other, code.APPEND) if isinstance(other, (Doc, str)) else NotImplemented
@@ -180,6 +181,9 @@ class Doc:
 
 
 DocLike = Union[Doc, str]
+
+# A document whose program is longer has no calls as its `repr`.
+_SHOWN = 4096
 
 
 # How codes become documents, and documents codes. These are short in calls: they are most of the time of building.

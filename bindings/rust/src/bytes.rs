@@ -1,4 +1,6 @@
-//! Bytes that grow at both ends.
+//! Bytes that grow at both ends, and that copies share.
+
+use std::sync::Arc;
 
 /// How many bytes are kept in the value itself, without memory of its own.
 const FEW: usize = 23;
@@ -7,6 +9,8 @@ const FEW: usize = 23;
 const LEAST: usize = 64;
 
 /// Bytes that grow at both ends, in amortised constant time a byte.
+///
+/// A clone shares the buffer. The first of the two that grows copies it.
 #[derive(Clone)]
 pub(crate) enum Bytes {
     Few {
@@ -15,7 +19,7 @@ pub(crate) enum Bytes {
     },
     /// The bytes are `buffer[start..]`. What is before `start` is room for bytes that are put in front.
     Many {
-        buffer: Vec<u8>,
+        buffer: Arc<Vec<u8>>,
         start: usize,
     },
 }
@@ -55,12 +59,24 @@ impl Bytes {
                     *length = to as u8;
                     return;
                 }
-                let mut buffer = self.moved(0, more.len() + LEAST);
-                buffer.extend_from_slice(more);
-                *self = Bytes::Many { buffer, start: 0 };
+                self.move_and_push_back(more);
             }
-            Bytes::Many { buffer, .. } => buffer.extend_from_slice(more),
+            Bytes::Many { buffer, .. } => match Arc::get_mut(buffer) {
+                Some(buffer) => buffer.extend_from_slice(more),
+                None => self.move_and_push_back(more),
+            },
         }
+    }
+
+    /// Adds bytes at the end, in a buffer of their own.
+    #[cold]
+    fn move_and_push_back(&mut self, more: &[u8]) {
+        let mut buffer = self.moved(0, more.len() + LEAST);
+        buffer.extend_from_slice(more);
+        *self = Bytes::Many {
+            buffer: Arc::new(buffer),
+            start: 0,
+        };
     }
 
     /// Adds bytes at the beginning.
@@ -71,20 +87,30 @@ impl Bytes {
                 bytes[..more.len()].copy_from_slice(more);
                 *length += more.len() as u8;
             }
-            Bytes::Many { buffer, start } if more.len() <= *start => {
-                let from = *start - more.len();
-                buffer[from..*start].copy_from_slice(more);
-                *start = from;
-            }
-            _ => {
-                // The free room is as long as the bytes, so these are moved only once they are twice as many.
-                let length = self.as_slice().len();
-                let front = more.len() + length;
-                let mut buffer = self.moved(front, LEAST);
-                buffer[length..front].copy_from_slice(more);
-                *self = Bytes::Many { buffer, start: length };
-            }
+            Bytes::Many { buffer, start } if more.len() <= *start => match Arc::get_mut(buffer) {
+                Some(buffer) => {
+                    let from = *start - more.len();
+                    buffer[from..*start].copy_from_slice(more);
+                    *start = from;
+                }
+                None => self.move_and_push_front(more),
+            },
+            _ => self.move_and_push_front(more),
         }
+    }
+
+    /// Adds bytes at the beginning, in a buffer of their own. Its free room is as long as the bytes, so these are moved
+    /// only once they are twice as many.
+    #[cold]
+    fn move_and_push_front(&mut self, more: &[u8]) {
+        let length = self.as_slice().len();
+        let front = more.len() + length;
+        let mut buffer = self.moved(front, LEAST);
+        buffer[length..front].copy_from_slice(more);
+        *self = Bytes::Many {
+            buffer: Arc::new(buffer),
+            start: length,
+        };
     }
 
     /// Adds the bytes of another value at the end. The fewer bytes are copied to the others.
@@ -100,10 +126,13 @@ impl Bytes {
     pub(crate) fn into_vec(self) -> Vec<u8> {
         match self {
             Bytes::Few { .. } => self.as_slice().to_vec(),
-            Bytes::Many { mut buffer, start } => {
-                buffer.drain(..start);
-                buffer
-            }
+            Bytes::Many { buffer, start } => match Arc::try_unwrap(buffer) {
+                Ok(mut buffer) => {
+                    buffer.drain(..start);
+                    buffer
+                }
+                Err(shared) => shared[start..].to_vec(),
+            },
         }
     }
 }
@@ -179,6 +208,24 @@ mod tests {
             }
             assert_eq!(both.bytes.into_vec(), both.model);
         }
+    }
+
+    #[test]
+    fn a_clone_shares_the_bytes_until_one_grows() {
+        let mut bytes = Bytes::new();
+        bytes.push_back(&some(1000));
+        bytes.push_front(&some(3));
+        let place = bytes.as_slice().as_ptr();
+        let mut others = [bytes.clone(), bytes.clone(), bytes.clone()];
+        assert!(others.iter().all(|it| it.as_slice().as_ptr() == place));
+        others[0].push_back(&[7]);
+        others[1].push_front(&[7]);
+        let [back, front, same] = others;
+        assert_eq!(back.as_slice(), [bytes.as_slice(), &[7]].concat());
+        assert_eq!(front.as_slice(), [&[7], bytes.as_slice()].concat());
+        assert_eq!(same.into_vec(), bytes.as_slice());
+        assert_eq!(bytes.as_slice().as_ptr(), place);
+        assert_eq!(bytes.into_vec(), [some(3), some(1000)].concat());
     }
 
     #[test]

@@ -14,7 +14,7 @@ use std::fmt;
 /// The constructors are functions of this type, such as [`Doc::text`] and [`Doc::line`]. Each method takes the document
 /// and gives a larger one, as [`group`](Doc::group) and [`nest`](Doc::nest) do. `+` and [`append`](Doc::append) put one
 /// document after another. A sum begins with a `Doc`; its right operands may be texts as they are. A document is moved
-/// into the larger one: clone it to use it twice.
+/// into the larger one: clone it to use it twice, or add it by reference, as `+ &doc`.
 ///
 /// ```
 /// use yezhgulo::Doc;
@@ -34,8 +34,8 @@ use std::fmt;
 /// - Where two documents become one, the shorter program is copied to the longer one, at its end or in front of it. So
 ///   a loop that adds to a document takes linear time, at either end. In whatever order documents are put together,
 ///   each byte is copied at most some `log n` times for a program of `n` bytes.
-/// - A clone copies the whole program. [`repeat`](Doc::repeat) and the separators of [`intersperse`](Doc::intersperse)
-///   are copies too.
+/// - A clone shares the memory of the program, in constant time, as an `Rc` does; it may be sent to another thread. The
+///   program is copied once for each larger document that a clone becomes a part of, as by [`repeat`](Doc::repeat).
 /// - No call of this crate calls itself for each level of a document, and a drop frees one piece of memory.
 ///
 /// A [`Writer`](crate::Writer) is faster: it copies nothing.

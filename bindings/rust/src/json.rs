@@ -7,7 +7,8 @@ use std::error;
 use std::fmt;
 use std::num::NonZeroUsize;
 
-/// How a JSON text is laid out. The default is 80 columns, an indent of 2, lines that are not filled, and no limit.
+/// How a JSON text is laid out. The default is 80 columns, an indent of 2, lines that are not filled, no blank lines, and
+/// no limit.
 #[derive(Clone, Copy, Debug, PartialEq, Eq, Hash)]
 #[non_exhaustive]
 pub struct JsonStyle {
@@ -17,12 +18,14 @@ pub struct JsonStyle {
     pub indent: u32,
     /// Whether an array of numbers alone fills its lines. Otherwise it has one line, or a line for each number.
     pub fill: bool,
+    /// Whether blank lines between members stay where lines are broken, of several one.
+    pub keep_blank_lines: bool,
     /// The greatest length of the layout in bytes, if there is one. A longer layout is a [`JsonError::PastLimit`].
     pub limit: Option<NonZeroUsize>,
 }
 
 impl JsonStyle {
-    /// Lines of so many columns, an indent of 2, lines that are not filled, and no limit.
+    /// Lines of so many columns, an indent of 2, lines that are not filled, no blank lines, and no limit.
     ///
     /// ```
     /// use yezhgulo::{format_json, JsonStyle};
@@ -37,6 +40,7 @@ impl JsonStyle {
             width,
             indent: 2,
             fill: false,
+            keep_blank_lines: false,
             limit: None,
         }
     }
@@ -66,6 +70,21 @@ impl JsonStyle {
     #[must_use]
     pub const fn with_fill(mut self, fill: bool) -> JsonStyle {
         self.fill = fill;
+        self
+    }
+
+    /// The same, where blank lines between members stay, of several one, or not. A list that fits on one line has none.
+    ///
+    /// ```
+    /// use yezhgulo::{format_json, JsonStyle};
+    ///
+    /// let style = JsonStyle::new(5).with_keep_blank_lines(true);
+    /// assert_eq!(format_json("[1,\n\n\n2]", &style)?, "[\n  1,\n\n  2\n]\n");
+    /// # Ok::<(), yezhgulo::JsonError>(())
+    /// ```
+    #[must_use]
+    pub const fn with_keep_blank_lines(mut self, keep_blank_lines: bool) -> JsonStyle {
+        self.keep_blank_lines = keep_blank_lines;
         self
     }
 
@@ -173,5 +192,5 @@ impl error::Error for JsonError {}
 /// # Ok::<(), JsonError>(())
 /// ```
 pub fn format_json(text: impl AsRef<[u8]>, style: &JsonStyle) -> Result<String, JsonError> {
-    format(text.as_ref(), style, style.limit, sys::json_layout).map_err(JsonError::of)
+    format(text.as_ref(), style, style.limit, sys::layout_json).map_err(JsonError::of)
 }

@@ -36,12 +36,13 @@ extern "C" {
         written: *mut usize,
     ) -> u32;
 
-    fn prettyless_json_layout(
+    fn prettyless_layout_json(
         text: *const u8,
         length: usize,
         width: usize,
         indent: u32,
         fill: bool,
+        keep_blank_lines: bool,
         limit: usize,
         out: *mut u8,
         capacity: usize,
@@ -50,7 +51,7 @@ extern "C" {
         column: *mut usize,
     ) -> u32;
 
-    fn prettyless_toml(
+    fn prettyless_layout_toml(
         text: *const u8,
         length: usize,
         width: usize,
@@ -112,17 +113,18 @@ pub(crate) fn layout(program: &[u8], options: &RenderOptions, out: &mut [u8]) ->
 }
 
 /// Lays out a JSON text. The place is where the text is refused, if it is.
-pub(crate) fn json_layout(text: &[u8], style: &JsonStyle, out: &mut [u8], place: &mut Place) -> Answer {
+pub(crate) fn layout_json(text: &[u8], style: &JsonStyle, out: &mut [u8], place: &mut Place) -> Answer {
     // SAFETY: As in `layout`: the call reads `length` bytes from `text`, writes at most `capacity` bytes from `out` on
     // and one number each to `written`, `line` and `column`, and keeps no pointer. These come from references, all but
     // the first mutable and to different places. Any bytes may be handed in as a text.
     answer(|written| unsafe {
-        prettyless_json_layout(
+        prettyless_layout_json(
             text.as_ptr(),
             text.len(),
             style.width,
             style.indent,
             style.fill,
+            style.keep_blank_lines,
             limit_of(style.limit),
             out.as_mut_ptr(),
             out.len(),
@@ -134,10 +136,10 @@ pub(crate) fn json_layout(text: &[u8], style: &JsonStyle, out: &mut [u8], place:
 }
 
 /// Lays out a TOML text. The place is where the text is refused, if it is.
-pub(crate) fn toml_layout(text: &[u8], style: &TomlStyle, out: &mut [u8], place: &mut Place) -> Answer {
-    // SAFETY: As in `json_layout`.
+pub(crate) fn layout_toml(text: &[u8], style: &TomlStyle, out: &mut [u8], place: &mut Place) -> Answer {
+    // SAFETY: As in `layout_json`.
     answer(|written| unsafe {
-        prettyless_toml(
+        prettyless_layout_toml(
             text.as_ptr(),
             text.len(),
             style.width,

@@ -27,7 +27,7 @@ impl TomlStyle {
     /// use yezhgulo::{format_toml, TomlStyle};
     ///
     /// assert_eq!(format_toml("a=[1,2]", &TomlStyle::new(10))?, "a = [1, 2]\n");
-    /// assert_eq!(format_toml("a=[1,2]", &TomlStyle::new(9))?, "a = [\n  1,\n  2,\n]\n");
+    /// assert_eq!(format_toml("a=[1,2]", &TomlStyle::new(9))?, "a = [\n  1, 2,\n]\n");
     /// # Ok::<(), yezhgulo::TomlError>(())
     /// ```
     #[must_use]
@@ -139,7 +139,7 @@ impl error::Error for TomlError {}
 
 /// The layout of a TOML text, which ends in a line end unless it is empty.
 ///
-/// It has the same statements: each key, value and remark stays as it is spelled. Lines end as the first line of the
+/// It has the same statements: each key, value and comment stays as it is spelled. Lines end as the first line of the
 /// text does that ends outside of strings, and else in LF. The text may be bytes: bytes that are not UTF-8 are not
 /// TOML.
 ///
@@ -153,12 +153,12 @@ impl error::Error for TomlError {}
 /// use yezhgulo::{format_toml, TomlError, TomlStyle};
 ///
 /// let style = TomlStyle::new(12);
-/// assert_eq!(format_toml("a=[1,22,333] # three", &style)?, "a = [\n  1,\n  22,\n  333,\n] # three\n");
+/// assert_eq!(format_toml("a=[1,22,333] # three", &style)?, "a = [\n  1, 22,\n  333,\n] # three\n");
 ///
 /// let error = format_toml("a = ", &style).unwrap_err();
 /// assert_eq!(error, TomlError::NotToml { line: 1, column: 5, expected: "a value".to_string() });
 /// # Ok::<(), TomlError>(())
 /// ```
 pub fn format_toml(text: impl AsRef<[u8]>, style: &TomlStyle) -> Result<String, TomlError> {
-    format(text.as_ref(), style, style.limit, sys::toml_layout).map_err(TomlError::of)
+    format(text.as_ref(), style, style.limit, sys::layout_toml).map_err(TomlError::of)
 }

@@ -1,6 +1,8 @@
 //! Each construct, by the examples of the guide and by layouts that are worked by hand.
 
 use std::borrow::Cow;
+use std::rc::Rc;
+use std::sync::Arc;
 use yezhgulo::{ColumnTest, Doc, NestingTest};
 
 #[track_caller]
@@ -68,6 +70,37 @@ fn groups() {
         &at_most,
         &[(usize::MAX, "test test"), (9, "test test"), (8, "test\ntest")],
     );
+}
+
+#[test]
+fn lists_between_brackets() {
+    let none: [Doc; 0] = [];
+    assert!(Doc::punctuated(none, ",").is_empty());
+    let inner = Doc::bracketed("[", Doc::punctuated(["2", "3"], ","), "]", 2);
+    let list = Doc::bracketed("[", Doc::punctuated([Doc::text("1"), inner], ","), "]", 2);
+    shows(&list, &[(11, "[1, [2, 3]]"), (10, "[\n  1,\n  [2, 3]\n]")]);
+    shows(
+        &Doc::bracketed("(", ["a", "b"], ")", 4),
+        &[(5, "(a b)"), (4, "(\n    a\n    b\n)")],
+    );
+    shows(&Doc::bracketed("{", [Doc::nil()], "}", 2), &[(2, "{}"), (1, "{\n\n}")]);
+}
+
+#[test]
+fn a_document_is_shared() {
+    let word = (Doc::text("a long") + Doc::line() + "document").group();
+    let place = word.program().as_ptr();
+    assert_eq!(word.clone().program().as_ptr(), place);
+    assert_eq!(Doc::from(&word).program().as_ptr(), place);
+    assert_eq!(Doc::from(Rc::new(word.clone())).program().as_ptr(), place);
+    assert_eq!(Doc::from(Arc::new(word.clone())).program().as_ptr(), place);
+    shows(
+        &(Doc::text("(") + &word + " or " + &word + ")").flatten(),
+        &[(0, "(a long document or a long document)")],
+    );
+    // What is made of a clone leaves the document as it was.
+    assert_eq!(word.program().as_ptr(), place);
+    shows(&word, &[(15, "a long document"), (14, "a long\ndocument")]);
 }
 
 #[test]

@@ -36,6 +36,21 @@ fn an_array_of_numbers_fills_its_lines() {
 }
 
 #[test]
+fn blank_lines_stay_between_members_of_broken_lists() {
+    let text = "{\"a\":\n\n1,\n\n\n\"b\": [2,\n\n3]\n\n}";
+    let style = JsonStyle::new(13);
+    let kept = style.with_keep_blank_lines(true);
+    assert_eq!(
+        format_json(text, &style).as_deref(),
+        Ok("{\n  \"a\": 1,\n  \"b\": [2, 3]\n}\n")
+    );
+    assert_eq!(
+        format_json(text, &kept).as_deref(),
+        Ok("{\n  \"a\": 1,\n\n  \"b\": [2, 3]\n}\n")
+    );
+}
+
+#[test]
 fn a_layout_may_be_far_longer_than_its_text() {
     let style = JsonStyle::new(0).with_indent(1000);
     let layout = format_json("[[1]]", &style).unwrap();

@@ -14,7 +14,7 @@ fn refuses(text: impl AsRef<[u8]>, line: usize, column: usize, expected: &str) {
 
 #[test]
 fn a_text_is_laid_out_within_the_width() {
-    let layout = "# first\nname = \"Ada\"\nlist = [\n  1,\n  22,\n  333,\n] #last\n[empty]\n";
+    let layout = "# first\nname = \"Ada\"\nlist = [\n  1, 22, 333,\n] #last\n[empty]\n";
     assert_eq!(format_toml(TEXT, &TomlStyle::new(16)).as_deref(), Ok(layout));
     let narrow = "a = [\n 1,\n 2,\n]\n";
     assert_eq!(

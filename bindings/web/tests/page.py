@@ -136,7 +136,8 @@ class Page:
     def printed(self, state):
         """What the program for this language prints, and says."""
         words = [f"{self.formatters}/{state['language']}fmt", "--width", state["width"], "--indent", state["indent"]]
-        words += ["--fill"] if state["fill"] and state["language"] == "json" else []
+        if state["language"] == "json":
+            words += ["--compact", "--fill", "numbers" if state["fill"] else "none"]
         ended = subprocess.run(words, input=state["text"].encode(), stdout=subprocess.PIPE, stderr=subprocess.PIPE)
         return ended.returncode, ended.stdout.decode(), ended.stderr.decode()
 

@@ -1,11 +1,31 @@
 //! Measures building and laying out in an arena: `bench` prints what comes of small documents, `bench time [WORKLOAD]` how
 //! long large ones take and how much memory, `bench wide WORKLOAD` the same within as many columns as their sizes, and
 //! `bench sizes` how large the types are that make a node.
+//!
+//! A workload is a kind of document, with its sizes and the width that it is laid out within. Small ones are compared by
+//! nodes, bytes and a checksum, large ones timed.
 #![tactic(auto)]
 
-use bench_workloads::failure::Failure;
-use bench_workloads::report::{compare, sizes, time_all, time_wide, time_workload};
-use bench_workloads::request::{Request, requested};
+mod checksum;
+mod document;
+mod failure;
+mod groups;
+mod json;
+mod levels;
+mod lists;
+mod measure;
+mod objects;
+mod parts;
+mod peak;
+mod report;
+mod request;
+mod trials;
+mod words;
+mod workload;
+
+use failure::Failure;
+use report::{compare, sizes, time_all, time_wide, time_workload};
+use request::{Request, requested};
 use std::env;
 use std::process::ExitCode;
 use std::rt::{Clock, Env, Files};

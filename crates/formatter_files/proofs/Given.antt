@@ -1,6 +1,6 @@
 -- The texts of the options that take a number, where a parse succeeds.
-use Rattle.std.proofs.Common.{◌≡◌, ◌⊎◌, ◌∙◌, ◌<◌, refl, sym, ap, subst, zero, suc, ℕ, Bool, true, false, not, ◌&&◌, List, [], ◌∷◌, length}
-use Rattle.std.proofs.Common.{map, Option, Some, None, inl, inr, arith, codes}
+use Rattle.std.proofs.Common.{◌≡◌, ◌⊎◌, ◌∙◌, ◌<◌, refl, sym, ap, subst, zero, suc, ℕ, Bool, true, false, not, ◌&&◌, List, [], ◌∷◌}
+use Rattle.std.proofs.Common.{◌++◌, length, map, Option, Some, None, inl, inr, arith, codes}
 use Rattle.std.specs.List.{All, list_all, slice_index_or}
 use Rattle.std.specs.Prelude.{option_map, slice_get, slice_index, unwrap_or}
 use Rattle.std.specs.Borrow.{Bor}
@@ -59,7 +59,7 @@ pub record TakesNumbers (app : App) : Type 0 where
   pub simple : list_all (λ (r : Rule). r.is_simple) app.top.rules ≡ true
 
 -- the option with this id takes a number
-abbrev IsOnly : List Rule → Text → ℕ → Type 0
+abbrev pub IsOnly : List Rule → Text → ℕ → Type 0
 IsOnly rules id most = (k : ℕ) (r : Rule) → k < length rules → bytes_eq (slice_index_or rules k r).id id ≡ true
     → ((slice_index_or rules k r).parser ≡ Some (Unsigned 0 most)) × ((slice_index_or rules k r).ignore_case ≡ false)
 
@@ -69,6 +69,18 @@ with_numbers others = number_rule (codes "width") most_64 ∷ with_letter 105 (n
 is_none : (b : Bool) → not b ≡ true → b ≡ true → ⊥
 is_none true e h = cc
 is_none false e h = cc
+
+-- it does where the others have other ids
+module _ (id : Text) (most : ℕ) (rule : Rule) (takes : (rule.parser ≡ Some (Unsigned 0 most)) × (rule.ignore_case ≡ false)) where
+  abbrev pub has_other_id : Rule → Bool
+  has_other_id r = not (bytes_eq r.id id)
+
+  pub only_one : (before after : List Rule) → list_all has_other_id before ≡ true → list_all has_other_id after ≡ true
+      → IsOnly (before ++ (rule ∷ after)) id most
+  only_one [] after b a zero r lt e = takes
+  only_one [] after b a (suc k) r lt e = absurd (is_none _ (passes_at has_other_id after k r a (omega arith)) e)
+  only_one (x ∷ before) after b a zero r lt e = absurd (is_none _ (and_parts _ _ b).0 e)
+  only_one (x ∷ before) after b a (suc k) r lt e = only_one before after (and_parts _ _ b).1 a k r (omega arith) e
 
 module _ (others : List Rule) (all : list_all is_other others ≡ true) where
   only_width : IsOnly (with_numbers others) (codes "width") most_64
@@ -81,18 +93,23 @@ module _ (others : List Rule) (all : list_all is_other others ≡ true) where
   only_indent (suc zero) r lt e = (refl, refl)
   only_indent (suc (suc k)) r lt e = absurd (is_none _ (and_parts _ _ (passes_at is_other others k r all (omega arith))).1 e)
 
-module _ (app : App) (takes : TakesNumbers app) (old : Command) (m : ArgMatches) (p : IsParsedFrom old m) (is : app_of old ≡ app) where
+-- A program whose options are simple.
+pub record IsSimpleProgram (app : App) : Type 0 where
+  pub plain : app.top.is_plain ≡ true
+  pub simple : list_all (λ (r : Rule). r.is_simple) app.top.rules ≡ true
+
+module _ (app : App) (simply : IsSimpleProgram app) (old : Command) (m : ArgMatches) (p : IsParsedFrom old m) (is : app_of old ≡ app) where
   abbrev rules : List Rule
-  rules = with_numbers takes.others
+  rules = app.top.rules
 
   rules_are : map rule_of (args_of old) ≡ rules
-  rules_are = ap (λ (a : App). a.top.rules) is ∙ takes.rules
+  rules_are = ap (λ (a : App). a.top.rules) is
 
   plain : has_plain_fields (out-Command old) ≡ true
-  plain = ap (λ (a : App). a.top.is_plain) is ∙ takes.plain
+  plain = ap (λ (a : App). a.top.is_plain) is ∙ simply.plain
 
   all_simple : list_all (λ (r : Rule). r.is_simple) rules ≡ true
-  all_simple = subst (λ (rs : List Rule). list_all (λ (r : Rule). r.is_simple) rs ≡ true) takes.rules takes.simple
+  all_simple = simply.simple
 
   rule_at : (k : ℕ) (d : Arg) → k < length (args_of old) → rule_of (slice_index_or (args_of old) k d) ≡ slice_index_or rules k (rule_of d)
   rule_at k d lt = sym (get_or-map rule_of (args_of old) k d (rule_of d) lt)
@@ -208,13 +225,25 @@ module _ (app : App) (takes : TakesNumbers app) (old : Command) (m : ArgMatches)
         let accepts = text_accepted text is_text in
         (accepts.0, accepts.3)
 
-  -- the ids begin with other letters than what is added, and are not empty
+  -- an id that begins with another letter than what is added, and is not empty
+  pub number_given : (id : Text) (most : ℕ) → IsOnly rules id most → (slice_index id 0 ≡ 104 → ⊥) → (slice_index id 0 ≡ 118 → ⊥)
+      → (slice_index id 0 ≡ 0 → ⊥) → IsNumberUpTo most (one_of id (rows_of (found_of m)))
+  number_given id most only help version named =
+      given id most only (λ auto. elim auto [ inl h ↦ differ _ _ h help | inr h ↦ differ _ _ h version ]) (λ h. differ _ _ h named) _
+      (one_text-rows (found_of m) id)
+
+module _ (app : App) (takes : TakesNumbers app) (old : Command) (m : ArgMatches) (p : IsParsedFrom old m) (is : app_of old ≡ app) where
+  simply : IsSimpleProgram app
+  simply = record { plain = takes.plain; simple = takes.simple }
+
   pub width_given : IsNumberUpTo most_64 (one_of (codes "width") (rows_of (found_of m)))
-  width_given = given (codes "width") most_64 (only_width takes.others takes.differ)
-      (λ auto. elim auto [ inl h ↦ differ _ _ h (λ e. omega (arith, e)) | inr h ↦ differ _ _ h (λ e. omega (arith, e)) ])
-      (λ h. differ _ _ h (λ e. omega (arith, e))) _ (one_text-rows (found_of m) (codes "width"))
+  width_given =
+      number_given app simply old m p is (codes "width") most_64
+      (subst (λ (rs : List Rule). IsOnly rs (codes "width") most_64) (sym takes.rules) (only_width takes.others takes.differ))
+      (λ e. omega (arith, e)) (λ e. omega (arith, e)) (λ e. omega (arith, e))
 
   pub indent_given : IsNumberUpTo most_32 (one_of (codes "indent") (rows_of (found_of m)))
-  indent_given = given (codes "indent") most_32 (only_indent takes.others takes.differ)
-      (λ auto. elim auto [ inl h ↦ differ _ _ h (λ e. omega (arith, e)) | inr h ↦ differ _ _ h (λ e. omega (arith, e)) ])
-      (λ h. differ _ _ h (λ e. omega (arith, e))) _ (one_text-rows (found_of m) (codes "indent"))
+  indent_given =
+      number_given app simply old m p is (codes "indent") most_32
+      (subst (λ (rs : List Rule). IsOnly rs (codes "indent") most_32) (sym takes.rules) (only_indent takes.others takes.differ))
+      (λ e. omega (arith, e)) (λ e. omega (arith, e)) (λ e. omega (arith, e))

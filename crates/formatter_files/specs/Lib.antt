@@ -2,6 +2,7 @@ pub mod Actions
 pub mod Arguments
 pub mod Comparing
 pub mod Differences
+pub mod Editor
 pub mod Endings
 pub mod Folders
 pub mod Heads

@@ -1,5 +1,5 @@
 -- What the words of a program that formats files ask for, by what `clap` reads in them.
-use Rattle.std.specs.Prelude.{◌≡◌, ◌≤◌, ℕ, ⊤, Bool, true, false, List, [], codes, map, Option, Some, None, unwrap_or}
+use Rattle.std.specs.Prelude.{◌≡◌, ◌≤◌, ℕ, ⊤, Bool, true, false, List, [], codes, map, Option, Some, None, unwrap_or, not, is_some}
 use Rattle.std.specs.Option.{option_map_or}
 use Rattle.std.specs.Str.{bytes_eq}
 use Rattle.std.specs.Str.Parse.{IsNumeral, digits_value, without_leading_plus}
@@ -39,16 +39,19 @@ program name = record {
   subs = [];
 }
 
+-- with the width
+abbrev pub with_width : App → App
+with_width a = with_rule a (number_rule (codes "width") most_64)
+
 -- with the options that take numbers; 105 is `i`
 abbrev pub with_numbers : App → App
-with_numbers a =
-    with_rule (with_rule a (number_rule (codes "width") most_64)) (with_letter 105 (number_rule (codes "indent") most_32))
+with_numbers a = with_rule (with_width a) (with_letter 105 (number_rule (codes "indent") most_32))
 
 -- with what says what becomes of the layouts, and of which files; 99 is `c`, 100 is `d`, and 119 is `w`
 abbrev pub with_files : App → App
 with_files a =
-    with_rule (with_rule (with_rule (with_rule a (with_letter 99 (flag (codes "check")))) (with_letter 100 (flag (codes "diff"))))
-    (with_letter 119 (flag (codes "write")))) files
+    with_rule (with_rule (with_rule (with_rule (with_rule a (with_letter 99 (flag (codes "check"))))
+    (with_letter 100 (flag (codes "diff")))) (with_letter 119 (flag (codes "write")))) (flag (codes "no-editorconfig"))) files
 
 -- the flag is given
 abbrev pub has_flag : Text → List Row → Bool
@@ -83,4 +86,7 @@ pub record IsTask (rows : List Row) (task : Task) : Type 0 where
   pub check : task.check ≡ has_flag (codes "check") rows
   pub diff : task.diff ≡ has_flag (codes "diff") rows
   pub write : task.write ≡ has_flag (codes "write") rows
+  pub editorconfig : task.editorconfig ≡ not (has_flag (codes "no-editorconfig") rows)
+  pub has_width : task.has_width ≡ is_some (first_of (codes "width") rows)
+  pub has_indent : task.has_indent ≡ is_some (first_of (codes "indent") rows)
   pub files : map (λ file. file.now) task.files.items ≡ unwrap_or (all_of (codes "FILE") rows) []

@@ -2,17 +2,20 @@
 ghost use Rattle.std.specs.Prelude.{◌≡◌, ◌⊎◌, IfErr, IfOk, IsTrue};
 ghost use Rattle.clap.specs.Words.{kind_of};
 ghost use Rattle.formatter_files.specs.Endings.{ending_after};
+ghost use Rattle.formatter_files.specs.Editor.{unsaid};
 
 use crate::action::Action;
 use crate::arguments::shown_of;
 use crate::comparing::Comparing;
 use crate::difference::difference;
+use crate::editor::settings_for;
 use crate::ending::Ending;
 use crate::folder::push_paths;
 use crate::formatter::{Formatter, LayoutError, Verdict};
 use crate::hunks::hunks;
 use crate::rewriting::Rewriting;
 use crate::stamp::Stamp;
+use editor_config::Settings;
 use std::fs::{Files, OpenFile};
 use std::io::{ErrorKind, Read, Write};
 use std::{fs, io};
@@ -26,6 +29,11 @@ pub struct Task<'w> {
     pub diff: bool,
     /// Whether files are replaced by their layouts, in place of writing these to standard output.
     pub write: bool,
+    /// Whether `.editorconfig` files are read.
+    pub editorconfig: bool,
+    /// Whether the words say the width, and the indent. Then no other file does.
+    pub has_width: bool,
+    pub has_indent: bool,
     /// The names of files, and of folders for the files below them. `-` is standard input, and so it is where there is none. Its
     /// layout is written to standard output.
     pub files: Vec<&'w str>,
@@ -252,6 +260,31 @@ fn read<R: AllocGlobal + Files + Input>(rt: &R, file: &str) -> io::Result<ReadTe
     Ok(ReadText { bytes, read: None })
 }
 
+impl Task<'_> {
+    /// The settings of which the words say nothing.
+    fn unsaid(&self, settings: Settings) -> Settings
+        ensures { result ≡ unsaid self.now settings }
+    {
+        let mut unsaid = settings;
+        if self.has_width {
+            unsaid.max_line_length = None;
+        }
+        if self.has_indent {
+            unsaid.indent_style = None;
+            unsaid.indent_size = None;
+        }
+        unsaid
+    }
+}
+
+/// What `.editorconfig` files say of a file, as far as that counts.
+fn settings<R: AllocGlobal + Files>(rt: &R, task: &Task<'_>, file: &str) -> io::Result<Settings> {
+    if !task.editorconfig || is_input(file) {
+        return Ok(Settings::silent());
+    }
+    Ok(task.unsaid(settings_for(rt, file)?))
+}
+
 fn lay_out_file<R: AllocGlobal + Files + Input + Eprint + Print, F: Formatter>(
     rt: &R,
     formatter: &F,
@@ -264,7 +297,8 @@ fn lay_out_file<R: AllocGlobal + Files + Input + Eprint + Print, F: Formatter>(
         bytes: &bytes,
         read,
     };
-    lay_out(rt, formatter, task, source)
+    let formatter = formatter.with_settings(settings(rt, task, file)?);
+    lay_out(rt, &formatter, task, source)
 }
 
 /// How something came out. An error is said on standard error; where that takes no message, the status is what is left.

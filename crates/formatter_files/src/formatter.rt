@@ -2,6 +2,7 @@
 ghost use Rattle.std.specs.Prelude.{ℕ, List, ⊤};
 ghost use Rattle.formatter_files.specs.Layouts.{WritesLayout};
 
+use editor_config::Settings;
 use std::io;
 use std::io::Write;
 
@@ -35,7 +36,7 @@ impl From<io::Error> for LayoutError {
 }
 
 /// What a program makes of a text.
-pub trait Formatter {
+pub trait Formatter: Drop {
     /// What it is to be a layout of a text: of the text first, then of the bytes that are one.
     ghost IsLayout: { Self → List ℕ → List ℕ → Type 0 } = { λ _ _ _. ⊤ };
 
@@ -44,6 +45,11 @@ pub trait Formatter {
 
     /// How the names of the files end that are laid out where a folder is named.
     fn ending(&self) -> &'static str;
+
+    /// The same, for a file of which `.editorconfig` files say this. What is not said, or cannot be met, stays as it is.
+    fn with_settings(&self, settings: Settings) -> Self
+    where
+        Self: Sized;
 
     /// Writes the layout of these bytes while it is made. They are refused after a message that says why, and names them so.
     ///

@@ -6,6 +6,7 @@ pub mod action;
 pub mod arguments;
 pub mod comparing;
 pub mod difference;
+mod editor;
 pub mod ending;
 pub mod files;
 pub mod folder;

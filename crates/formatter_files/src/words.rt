@@ -1,8 +1,8 @@
 //! The options that programs which format files have in common.
-ghost use Rattle.std.specs.Prelude.{◌≡◌, IfOk, false};
-ghost use Rattle.clap.specs.Words.{app_of, found_of, rows_of, rule_of};
+ghost use Rattle.std.specs.Prelude.{◌≡◌, IfOk, false, is_some};
+ghost use Rattle.clap.specs.Words.{app_of, first_of, found_of, rows_of, rule_of};
 ghost use Rattle.formatter_files.specs.Words.{HasIndent, HasWidth, IsIndent, IsTask, IsWidth, files, flag, has_flag, number_rule};
-ghost use Rattle.formatter_files.specs.Words.{program, with_files, with_letter, with_numbers};
+ghost use Rattle.formatter_files.specs.Words.{program, with_files, with_letter, with_numbers, with_width};
 
 use crate::files::Task;
 use clap::builder::ValueParser;
@@ -10,7 +10,7 @@ use clap::{Arg, ArgAction, ArgMatches, Command};
 use std::alloc::{AllocError, Global};
 
 /// An option that takes a number, no greater than `most`.
-fn number<'w>(alloc: Global, name: &'w str, most: u64, help: &'w str) -> Arg<'w>
+pub fn number<'w>(alloc: Global, name: &'w str, most: u64, help: &'w str) -> Arg<'w>
     ensures rule { rule_of result ≡ number_rule name.entry.now most }
     ensures local { result.global ≡ false }
 {
@@ -57,6 +57,20 @@ pub fn program<'w>(alloc: Global, name: &'w str, version: &'w str, about: &'w st
     Command::new(alloc, name).version(version).about(about)
 }
 
+/// The command with the option `--width`.
+///
+/// `AllocError` where memory is refused.
+pub fn with_width<'w>(alloc: Global, command: Command<'w>) -> Result<Command<'w>, AllocError>
+    ensures { IfOk result (λ made. app_of made ≡ with_width (app_of command.entry)) }
+{
+    command.arg(number(
+        alloc,
+        "width",
+        u64::MAX,
+        "The width of a line, in columns [default: 80]",
+    ))
+}
+
 /// The command with the options `--width` and `--indent` or `-i`, of which the second says how far the `members` are indented.
 ///
 /// `AllocError` where memory is refused.
@@ -67,14 +81,8 @@ pub fn with_numbers<'w>(
 ) -> Result<Command<'w>, AllocError>
     ensures { IfOk result (λ made. app_of made ≡ with_numbers (app_of command.entry)) }
 {
-    command
-        .arg(number(
-            alloc,
-            "width",
-            u64::MAX,
-            "The width of a line, in columns [default: 80]",
-        ))?
-        .arg(lettered(number(alloc, "indent", u64::from(u32::MAX), members), 'i'))
+    let with_width = with_width(alloc, command)?;
+    with_width.arg(lettered(number(alloc, "indent", u64::from(u32::MAX), members), 'i'))
 }
 
 /// The command with `--check`, `--diff`, `--write`, their letters, and the files.
@@ -108,6 +116,7 @@ pub fn with_files<'w>(alloc: Global, command: Command<'w>) -> Result<Command<'w>
             ),
             'w',
         ))?
+        .arg(flag(alloc, "no-editorconfig", "Read no `.editorconfig` files"))?
         .arg(files(alloc))
 }
 
@@ -119,6 +128,13 @@ pub fn has_flag(matches: &ArgMatches<'_>, name: &str) -> bool
         Some(value) => value == "true",
         None => false,
     }
+}
+
+/// Whether the option is given a value.
+fn is_given(matches: &ArgMatches<'_>, name: &str) -> bool
+    ensures { result ≡ is_some (first_of name.now (rows_of (found_of matches.now))) }
+{
+    matches.get_str(name).is_some()
 }
 
 /// The width that is asked for, in columns.
@@ -147,6 +163,9 @@ pub fn task<'w>(alloc: Global, matches: &ArgMatches<'w>) -> Result<Task<'w>, All
         check: has_flag(matches, "check"),
         diff: has_flag(matches, "diff"),
         write: has_flag(matches, "write"),
+        editorconfig: !has_flag(matches, "no-editorconfig"),
+        has_width: is_given(matches, "width"),
+        has_indent: is_given(matches, "indent"),
         files: Vec::from_slice(alloc, matches.get_strs("FILE").unwrap_or(&[]))?,
     })
 }

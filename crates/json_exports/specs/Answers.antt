@@ -1,20 +1,36 @@
 -- What a call for the layout of a JSON text answers, for each status.
-use Rattle.std.specs.Prelude.{◌≡◌, ◌≤◌, ◌<◌, ◌⊎◌, ℕ, Bool, false, List, length, take, None}
+use Rattle.std.specs.Prelude.{◌≡◌, ◌≤◌, ◌<◌, ◌⊎◌, ℕ, Bool, true, false, List, length, take, None, if◌then◌else◌}
 use Rattle.std.specs.Str.{IsUtf8}
-use Rattle.json_validity.specs.Document.{document}
+use Rattle.json_validity.specs.Document.{document, max_depth}
 use Rattle.json_formatter.specs.Formats.{IsFormatted}
+use Rattle.json_formatter.specs.declared.style.Fill.{Fill}
+use Rattle.json_formatter.specs.declared.style.Fill.TheVariants.{Nothing, Numbers}
+use Rattle.json_formatter.specs.declared.style.LineEnd.TheVariants.{Lf}
 use Rattle.json_formatter.specs.declared.style.Style.{Style}
 use Rattle.json_lexemes.specs.Expected.{name_of}
 use Rattle.json_lexemes.specs.Faults.{IsEndOfUtf8, NamesJsonStop}
 use Rattle.text_places.specs.Places.{IsPlaceWithin}
 use Rattle.json_lexemes.specs.declared.expected.Expected.{Expected}
 use Rattle.json_lexemes.specs.declared.expected.Expected.TheVariants.{Utf8}
-use Rattle.prettyless_area.specs.Overlay.{overlay}
+use Rattle.prettyless_exports.specs.Overlay.{overlay}
 use Rattle.prettyless_exports.specs.Answers.{Holds, IsUntouched}
 
--- the style that a caller asks for; it keeps no blank lines
-abbrev pub style_of : ℕ → ℕ → Bool → Style
-style_of width indent fill = record { width = width; indent = indent; fill = fill; blank_lines = false }
+-- which arrays fill their lines: those of numbers alone, or none
+abbrev pub fill_of : Bool → Fill
+fill_of fill = if fill then Numbers else Nothing
+
+-- The style that a caller asks for: it has line feeds and spaces, is compact, and allows as many levels as there may be.
+abbrev pub style_of : ℕ → ℕ → Bool → Bool → Style
+style_of width indent fill keep_blank_lines = record {
+  width = width;
+  indent = indent;
+  tabs = false;
+  line_end = Lf;
+  fill = fill_of fill;
+  blank_lines = keep_blank_lines;
+  compact = true;
+  depth = max_depth;
+}
 
 -- the bytes are no JSON text
 abbrev pub IsNoJson : List ℕ → Type 0

@@ -2,15 +2,16 @@
 ghost use Rattle.std.specs.Prelude.{◌≡◌, IfErr, IfOk, OnErr, OnOk};
 ghost use Rattle.json_formatter.specs.BlankLines.{layout_of};
 ghost use Rattle.json_formatter.specs.Formats.{IsFormatted, IsRefused};
-ghost use Rattle.prettyless_area.specs.Overlay.{PutsAll, PutsToLimit};
+ghost use Rattle.prettyless_exports.specs.Overlay.{PutsAll, PutsToLimit};
 ghost use Rattle.prettyless_exports.specs.Answers.{limit_of};
 ghost use Rattle.json_exports.specs.Answers.{AnswersJson, style_of};
 ghost use Rattle.json_exports.specs.Statuses.{RefusesJson, JsonStatusHolds};
 
 use crate::status::Status;
-use json_formatter::{FormatError, Style, render};
+use json_formatter::{Fill, FormatError, LineEnd, Style, render};
 use json_lexemes::fault_of;
-use prettyless_area::area::{Area, Full};
+use json_validity::MAX_DEPTH;
+use prettyless_exports::area::{Area, Full};
 use prettyless_exports::layout::limit_from;
 use prettyless_exports::text::{Put, put_name};
 use std::alloc::Global;
@@ -29,7 +30,7 @@ fn put_layout(
     ensures formatted { OnOk result (IsFormatted style text.now (layout_of style text.now)) }
     ensures ok { IfOk result (λ put. OnOk put (PutsAll limit (layout_of style text.now) out.old out.new count.new)) }
     ensures err { IfOk result (λ put. OnErr put (PutsToLimit limit (layout_of style text.now) out.old out.new count.new)) }
-    ensures refused { IfErr result (IsRefused text.now) }
+    ensures refused { IfErr result (IsRefused style text.now) }
     ensures untouched { OnErr result (out.new ≡ out.old) }
 {
     let mut area = Area::new(out, limit);
@@ -113,7 +114,8 @@ fn refused(
 }
 
 /// Lays out a JSON text into an area of bytes, at a width in columns, with an indent in columns for each level; where
-/// `fill` says so, arrays of numbers fill their lines.
+/// `fill` says so, arrays of numbers fill their lines, and where `keep_blank_lines` does, blank lines between members stay,
+/// of several one. The style is compact.
 ///
 /// `limit` is the greatest length of the layout in bytes, or 0 for none. The answer is the number of a status, which says
 /// what `out` and `written` are, and of bytes that are no JSON text where that is seen: `line` and `column` are from 1, and
@@ -124,19 +126,25 @@ pub fn json_layout(
     width: usize,
     indent: u32,
     fill: bool,
+    keep_blank_lines: bool,
     limit: usize,
     out: &mut [u8],
     written: &mut usize,
     line: &mut usize,
     column: &mut usize,
 ) -> u32
-    ensures { AnswersJson (style_of width indent fill) (limit_of limit) text.now out.old out.new written.new line.new column.new result }
+    ensures { AnswersJson (style_of width indent fill keep_blank_lines) (limit_of limit) text.now out.old out.new written.new
+        line.new column.new result }
 {
     let style = Style {
         width,
         indent,
-        fill,
-        blank_lines: false,
+        tabs: false,
+        line_end: LineEnd::Lf,
+        fill: if fill { Fill::Numbers } else { Fill::Nothing },
+        blank_lines: keep_blank_lines,
+        compact: true,
+        depth: MAX_DEPTH,
     };
     match laid_out(alloc, text, style, limit_from(limit), out, written) {
         Status::NotJson => refused(alloc, text, out, written, line, column).number(),

@@ -1,5 +1,5 @@
 -- A text is laid out by the value that its lexemes spell.
-use Rattle.std.proofs.Common.{◌≡◌, refl, sym, ◌∙◌, ap, ℕ, suc, ◌+◌, ◌≤◌, false, List, [], ◌∷◌, ◌++◌, append-nil, arith}
+use Rattle.std.proofs.Common.{◌≡◌, refl, sym, ◌∙◌, ap, ℕ, suc, ◌+◌, ◌≤◌, false, List, [], ◌∷◌, append-nil, arith}
 use Rattle.std.specs.List.{fold}
 use Rattle.json_validity.specs.Document.{max_depth}
 use Rattle.json_lexemes.proofs.Grammar.{spell_document}
@@ -15,6 +15,7 @@ use Rattle.prettyless.specs.Tree.{Tree, Nil}
 use Rattle.json_formatter.specs.declared.style.Style.{Style}
 use Rattle.json_formatter.specs.BlankLines.{with_kept_lines}
 use Rattle.json_formatter.specs.ByValue.{LayoutsGoByValues, TextsAreLaidByValues, laid_value}
+use Rattle.json_formatter.specs.Spelling.{with_spelling}
 use Rattle.json_formatter.specs.Documents.{Read, laid, many, onto, read, until, lexemes_tree, value}
 use Rattle.json_formatter.proofs.LaidParts.{Rested, end_follows}
 use Rattle.json_formatter.proofs.LaidValues.{value_lays}
@@ -59,7 +60,7 @@ laid_by_value style text v is deep formed =
     ap (λ (ss : List (List ℕ)). laid style (lexemes_tree style ss)) is
     ∙ ap (laid style) (tree_is style v deep formed)
     ∙ ap bytes_in (value_layout style v formed) in
-    ap (λ (l : List ℕ). with_kept_lines style text l ++ 10 ∷ []) bytes
+    ap (λ (l : List ℕ). with_spelling style text (with_kept_lines style text l)) bytes
 
 pub texts_laid_by_value : TextsAreLaidByValues
 texts_laid_by_value style text j is =

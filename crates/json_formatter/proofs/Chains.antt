@@ -1,5 +1,5 @@
 -- The shape of a list's document: its members appended to one another with gaps between them, in lines between two brackets.
-use Rattle.std.proofs.Common.{◌≡◌, refl, sym, ◌∙◌, ap, subst, ℕ, zero, suc, Bool, true, false, ◌&&◌, List, [], ◌∷◌}
+use Rattle.std.proofs.Common.{◌≡◌, refl, sym, ◌∙◌, ap, subst, ℕ, zero, suc, Bool, true, false, not, List, [], ◌∷◌}
 use Rattle.std.specs.Prelude.{pos}
 use Rattle.std.specs.List.{fold}
 use Rattle.json.specs.Word.{ends_word}
@@ -7,13 +7,13 @@ use Rattle.json_lexemes.specs.Grammar.{Value, alone, array, object, Items, no_it
 use Rattle.json_lexemes.specs.Grammar as g
 use Rattle.json_lexemes.specs.Grammar.{IsFormed, AreFormedItems, AreFormedMembers}
 use Rattle.prettyless_model.specs.Metrics.{is_ascii}
-use Rattle.prettyless.specs.Built.{IsNotNil, append, enclose, group, nest, softline}
+use Rattle.prettyless.specs.Built.{IsNotNil, append, enclose, group, nest}
 use Rattle.prettyless.specs.Counted.{text}
-use Rattle.prettyless.specs.Lines.{line, line_, space}
+use Rattle.prettyless.specs.Lines.{space}
 use Rattle.prettyless.specs.Tree.{Tree, Nil, Text, Append, Group}
 use Rattle.json_formatter.specs.declared.style.Style.{Style}
-use Rattle.json_formatter.specs.ByValue.{are_numbers, is_empty_object}
-use Rattle.json_formatter.specs.Documents.{listed}
+use Rattle.json_formatter.specs.ByValue.{items_fill}
+use Rattle.json_formatter.specs.Documents.{margin, gap_in, listed}
 use Rattle.json_formatter.proofs.ValueTrees.{tree, item_trees, member_trees, item_marked, member_marked, key_tree, key_formed}
 
 -- appended, where both are something
@@ -46,43 +46,40 @@ chain_is gap x (y ∷ ys) g h k =
     (ap (λ (z : Tree). append z y) (append_is x gap h g) ∙ append_is (Append x gap) y tt k.0)
     ∙ chain_is gap (Append (Append x gap) y) ys g tt k.1
 
--- lines between brackets
-abbrev pub within : Tree → Tree → Tree → ℕ → Tree
-within before items after k = Append (Append before (Append (nest (pos k) (Append line_ items)) line_)) after
+-- lines between brackets, with a gap inside these
+abbrev pub within : Tree → Tree → Tree → Tree → ℕ → Tree
+within inside before items after k = Append (Append before (Append (nest (pos k) (Append inside items)) inside)) after
 
 nested_some : (k : ℕ) (l r : Tree) → IsNotNil (nest (pos k) (Append l r))
 nested_some zero l r = tt
 nested_some (suc k) l r = tt
 
-lines_are : (gap : Tree) (a z : ℕ) (k : ℕ) (x : Tree) (xs : List Tree) → IsNotNil gap → IsNotNil x → AreSome xs
-    → group (enclose (Text (a ∷ [])) (append (nest (pos k) (append line_ (fold (λ z y. append (append z gap) y) x xs))) line_)
-    (Text (z ∷ [])))
-    ≡ Group (within (Text (a ∷ [])) (chain gap x xs) (Text (z ∷ [])) k)
-lines_are gap a z k x xs g h j =
+lines_are : (inside gap : Tree) (a z : ℕ) (k : ℕ) (x : Tree) (xs : List Tree) → IsNotNil inside → IsNotNil gap → IsNotNil x → AreSome xs
+    → group (enclose (Text (a ∷ []))
+    (append (nest (pos k) (append inside (fold (λ z y. append (append z gap) y) x xs))) inside) (Text (z ∷ [])))
+    ≡ Group (within inside (Text (a ∷ [])) (chain gap x xs) (Text (z ∷ [])) k)
+lines_are inside gap a z k x xs e g h j =
     let items = chain gap x xs in
-    ap (λ (i : Tree). group (enclose (Text (a ∷ [])) (append (nest (pos k) (append line_ i)) line_) (Text (z ∷ []))))
+    ap (λ (i : Tree). group (enclose (Text (a ∷ [])) (append (nest (pos k) (append inside i)) inside) (Text (z ∷ []))))
     (chain_is gap x xs g h j)
-    ∙ ap (λ (l : Tree). group (enclose (Text (a ∷ [])) (append (nest (pos k) l) line_) (Text (z ∷ []))))
-    (append_is line_ items tt (chain_some gap x xs h))
+    ∙ ap (λ (l : Tree). group (enclose (Text (a ∷ [])) (append (nest (pos k) l) inside) (Text (z ∷ []))))
+    (append_is inside items e (chain_some gap x xs h))
     ∙ ap (λ (l : Tree). group (enclose (Text (a ∷ [])) l (Text (z ∷ []))))
-    (append_is (nest (pos k) (Append line_ items)) line_ (nested_some k line_ items) tt)
+    (append_is (nest (pos k) (Append inside items)) inside (nested_some k inside items) e)
 
--- the gap between two members
-abbrev pub gap_in : Bool → Tree
-gap_in true = softline
-gap_in false = line
+-- the gaps of a list are something
+margin_some : (blanks : Bool) → IsNotNil (margin blanks)
+margin_some true = tt
+margin_some false = tt
 
-pub listed_is : (fills : Bool) (a z : ℕ) (k : ℕ) (x : Tree) (xs : List Tree) → IsNotNil x → AreSome xs
-    → listed fills (Text (a ∷ [])) (x ∷ xs) (Text (z ∷ [])) (pos k) ≡ Group
-    (within (Text (a ∷ [])) (chain (gap_in fills) x xs) (Text (z ∷ [])) k)
-listed_is true a z k x xs h j = lines_are softline a z k x xs tt h j
-listed_is false a z k x xs h j = lines_are line a z k x xs tt h j
+gap_some : (fills : Bool) → IsNotNil (gap_in fills)
+gap_some true = tt
+gap_some false = tt
 
--- between them there is nothing
-pub listed_none : (fills : Bool) (a z : ℕ) (k : ℕ) → listed fills (Text (a ∷ [])) [] (Text (z ∷ [])) (pos k)
-    ≡ Append (Text (a ∷ [])) (Text (z ∷ []))
-listed_none true a z k = refl
-listed_none false a z k = refl
+pub listed_is : (blanks fills : Bool) (a z : ℕ) (k : ℕ) (x : Tree) (xs : List Tree) → IsNotNil x → AreSome xs
+    → listed blanks fills (Text (a ∷ [])) (x ∷ xs) (Text (z ∷ [])) (pos k) ≡ Group
+    (within (margin blanks) (Text (a ∷ [])) (chain (gap_in fills) x xs) (Text (z ∷ [])) k)
+listed_is blanks fills a z k x xs h j = lines_are (margin blanks) (gap_in fills) a z k x xs (margin_some blanks) (gap_some fills) h j
 
 -- ---- the documents of values are something
 
@@ -105,16 +102,17 @@ pub member_marked_some : (t : Tree) (ms : Members) → IsNotNil t → IsNotNil (
 member_marked_some t no_members h = h
 member_marked_some t (g.member k v ms) h = append_some t (Text (44 ∷ [])) h tt
 
-listed_some : (fills : Bool) (a z k : ℕ) (xs : List Tree) → AreSome xs → IsNotNil (listed fills (Text (a ∷ [])) xs (Text (z ∷ [])) (pos k))
-listed_some fills a z k [] h = subst IsNotNil (sym (listed_none fills a z k)) tt
-listed_some fills a z k (x ∷ xs) h = subst IsNotNil (sym (listed_is fills a z k x xs h.0 h.1)) tt
+listed_some : (blanks fills : Bool) (a z k : ℕ) (xs : List Tree) → AreSome xs
+    → IsNotNil (listed blanks fills (Text (a ∷ [])) xs (Text (z ∷ [])) (pos k))
+listed_some blanks fills a z k [] h = tt
+listed_some blanks fills a z k (x ∷ xs) h = subst IsNotNil (sym (listed_is blanks fills a z k x xs h.0 h.1)) tt
 
 mutual
   pub value_some : (style : Style) (v : Value) → IsFormed v → IsNotNil (tree style v)
   value_some style (alone s) h = text_some s h
-  value_some style (array vs) h = listed_some (style.fill && are_numbers vs) 91 93 style.indent (item_trees style vs)
+  value_some style (array vs) h = listed_some false (items_fill style.fill vs) 91 93 style.indent (item_trees style vs)
       (items_some style vs h)
-  value_some style (object ms) h = listed_some (style.fill && is_empty_object ms) 123 125 style.indent (member_trees style ms)
+  value_some style (object ms) h = listed_some (not style.compact) false 123 125 style.indent (member_trees style ms)
       (members_some style ms h)
 
   pub items_some : (style : Style) (vs : Items) → AreFormedItems vs → AreSome (item_trees style vs)

@@ -1,6 +1,6 @@
 -- How wide a list is on a flat line, as it is found from its opening bracket on: the width of what closes it ends with it.
-use Rattle.std.proofs.Common.{◌≡◌, refl, sym, ◌∙◌, ap, ℕ, ◌+◌, ◌-◌, ◌≤◌, nat_le, true, false, List, [], ◌∷◌, ◌++◌, append_assoc, Option}
-use Rattle.std.proofs.Common.{Some, None, arith}
+use Rattle.std.proofs.Common.{◌≡◌, refl, sym, ◌∙◌, ap, subst, ℕ, ◌+◌, ◌-◌, ◌≤◌, nat_le, Bool, true, false, not, List, [], ◌∷◌, ◌++◌}
+use Rattle.std.proofs.Common.{append_assoc, Option, Some, None, arith}
 use Rattle.std.proofs.lemmas.Bool.{lt-leb}
 use Rattle.json.specs.Ascii as ascii
 use Rattle.json.specs.Word.{ends_word}
@@ -8,12 +8,13 @@ use Rattle.json_lexemes.specs.Grammar.{Value, alone, array, object, Items, no_it
 use Rattle.json_lexemes.specs.Grammar as g
 use Rattle.json_lexemes.specs.Grammar.{spelled, spelled_items, more_items, spelled_members, more_members, IsFormed, AreFormedItems}
 use Rattle.json_lexemes.specs.Grammar.{AreFormedMembers}
+use Rattle.prettyless_model.specs.Metrics.{text_width}
+use Rattle.json_formatter.specs.declared.style.Style.{Style}
+use Rattle.json_formatter.specs.ByValue.{brace_blank, flat, flat_items, more_flat_items, more_flat_members}
 use Rattle.json_formatter.specs.Documents.{opens, closes}
-use Rattle.json_formatter.specs.Flat.{flat_width, lexeme_columns, wider, width_to_close}
-use Rattle.json_formatter.proofs.FlatTrees.{width_joined}
-use Rattle.json_formatter.proofs.ValueTrees.{formed_plain, key_formed}
-
--- ---- lexemes
+use Rattle.json_formatter.specs.Flat.{blank_if, flat_width, lexeme_columns, wider, width_to_close}
+use Rattle.json_formatter.proofs.FlatTrees.{plus_nothing, width_joined}
+use Rattle.json_formatter.proofs.ValueTrees.{IsPlain, formed_plain, key_formed}
 
 wider_twice : (a b : ℕ) (o : Option ℕ) → wider a (wider b o) ≡ wider (a + b) o
 wider_twice a b None = refl
@@ -22,127 +23,202 @@ wider_twice a b (Some n) = ap Some (omega arith)
 wider_same : (a b : ℕ) (o : Option ℕ) → a ≡ b → wider a o ≡ wider b o
 wider_same a b o e = ap (λ (n : ℕ). wider n o) e
 
--- lexemes that leave as many lists open as they found open: the search goes over them
-abbrev pub GoesOver : List (List ℕ) → Type 0
-GoesOver ss = (n : ℕ) (rest : List (List ℕ)) → 1 ≤ n → width_to_close n (ss ++ rest) ≡ wider (flat_width ss) (width_to_close n rest)
+module _ (style : Style) where
+  -- ---- lexemes
 
--- lexemes that close one list
-abbrev pub ClosesOne : List (List ℕ) → Type 0
-ClosesOne ss = (n : ℕ) (rest : List (List ℕ)) → 1 ≤ n → width_to_close (n + 1) (ss ++ rest) ≡ wider (flat_width ss) (width_to_close n rest)
+  abbrev to_close : ℕ → List (List ℕ) → Option ℕ
+  to_close n ss = width_to_close style.compact n ss
 
--- lexemes that close the last list
-abbrev pub ClosesLast : List (List ℕ) → Type 0
-ClosesLast ss = (rest : List (List ℕ)) → width_to_close 1 (ss ++ rest) ≡ Some (flat_width ss)
+  -- a lexeme takes so many columns, whatever comes after it
+  abbrev Takes : List ℕ → ℕ → Type 0
+  Takes s w = (rest : List (List ℕ)) → lexeme_columns style.compact s rest ≡ w
 
--- a lexeme that neither opens nor closes a list
-over_word : (n : ℕ) (s : List ℕ) (rest : List (List ℕ)) → opens s ≡ false → closes s ≡ false
-    → width_to_close n (s ∷ rest) ≡ wider (lexeme_columns s) (width_to_close n rest)
-over_word n s rest e f = rw (e, f) refl
+  -- lexemes of so many columns that leave as many lists open as they found open: the search goes over them
+  abbrev pub GoesOver : List (List ℕ) → ℕ → Type 0
+  GoesOver ss w = (n : ℕ) (rest : List (List ℕ)) → 1 ≤ n → to_close n (ss ++ rest) ≡ wider w (to_close n rest)
 
--- two parts
-over_both : (xs ys : List (List ℕ)) → GoesOver xs → GoesOver ys → GoesOver (xs ++ ys)
-over_both xs ys h k = λ n rest l.
-    ap (width_to_close n) (append_assoc xs ys rest)
-    ∙ h n (ys ++ rest) l ∙ ap (wider (flat_width xs)) (k n rest l)
-    ∙ wider_twice (flat_width xs) (flat_width ys) (width_to_close n rest)
-    ∙ wider_same _ _ (width_to_close n rest) (sym (width_joined xs ys))
+  -- lexemes that close one list
+  abbrev pub ClosesOne : List (List ℕ) → ℕ → Type 0
+  ClosesOne ss w = (n : ℕ) (rest : List (List ℕ)) → 1 ≤ n → to_close (n + 1) (ss ++ rest) ≡ wider w (to_close n rest)
 
-over_then_close : (xs ys : List (List ℕ)) → GoesOver xs → ClosesOne ys → ClosesOne (xs ++ ys)
-over_then_close xs ys h k = λ n rest l.
-    ap (width_to_close (n + 1)) (append_assoc xs ys rest)
-    ∙ h (n + 1) (ys ++ rest) (omega arith) ∙ ap (wider (flat_width xs)) (k n rest l)
-    ∙ wider_twice (flat_width xs) (flat_width ys) (width_to_close n rest)
-    ∙ wider_same _ _ (width_to_close n rest) (sym (width_joined xs ys))
+  -- lexemes that close the last list
+  abbrev pub ClosesLast : List (List ℕ) → ℕ → Type 0
+  ClosesLast ss w = (rest : List (List ℕ)) → to_close 1 (ss ++ rest) ≡ Some w
 
-over_then_last : (xs ys : List (List ℕ)) → GoesOver xs → ClosesLast ys → ClosesLast (xs ++ ys)
-over_then_last xs ys h k = λ rest.
-    ap (width_to_close 1) (append_assoc xs ys rest)
-    ∙ h 1 (ys ++ rest) (omega arith) ∙ ap (wider (flat_width xs)) (k rest)
-    ∙ ap Some (sym (width_joined xs ys))
+  -- two parts
+  over_both : (xs ys : List (List ℕ)) (w v : ℕ) → GoesOver xs w → GoesOver ys v → GoesOver (xs ++ ys) (w + v)
+  over_both xs ys w v h k = λ n rest l.
+      ap (to_close n) (append_assoc xs ys rest)
+      ∙ h n (ys ++ rest) l ∙ ap (wider w) (k n rest l)
+      ∙ wider_twice w v (to_close n rest)
 
--- a bracket that closes a list
-close_one : (s : List ℕ) → opens s ≡ false → closes s ≡ true → ClosesOne (s ∷ [])
-close_one s e f = λ n rest l.
-    let more : nat_le (n + 1) 1 ≡ false = lt-leb (n + 1) 1 (omega (arith, l)) in
-    let less : (n + 1) - 1 ≡ n = omega arith in
-    rw (e, f, more, less) (wider_same (lexeme_columns s) (lexeme_columns s + 0) (width_to_close n rest) (omega arith))
+  over_then_close : (xs ys : List (List ℕ)) (w v : ℕ) → GoesOver xs w → ClosesOne ys v → ClosesOne (xs ++ ys) (w + v)
+  over_then_close xs ys w v h k = λ n rest l.
+      ap (to_close (n + 1)) (append_assoc xs ys rest)
+      ∙ h (n + 1) (ys ++ rest) (omega arith) ∙ ap (wider w) (k n rest l)
+      ∙ wider_twice w v (to_close n rest)
 
-close_last : (s : List ℕ) → opens s ≡ false → closes s ≡ true → ClosesLast (s ∷ [])
-close_last s e f = λ rest. rw (e, f) (ap Some (omega arith))
+  over_then_last : (xs ys : List (List ℕ)) (w v : ℕ) → GoesOver xs w → ClosesLast ys v → ClosesLast (xs ++ ys) (w + v)
+  over_then_last xs ys w v h k = λ rest.
+      ap (to_close 1) (append_assoc xs ys rest)
+      ∙ h 1 (ys ++ rest) (omega arith) ∙ ap (wider w) (k rest)
 
--- a bracket that opens a list, and what closes it
-over_list : (s : List ℕ) (ss : List (List ℕ)) → opens s ≡ true → ClosesOne ss → GoesOver (s ∷ ss)
-over_list s ss e h = λ n rest l.
-    rw e (ap (wider (lexeme_columns s)) (h n rest l) ∙ wider_twice (lexeme_columns s) (flat_width ss) (width_to_close n rest))
+  -- a bracket that closes a list
+  close_one : (s : List ℕ) → opens s ≡ false → closes s ≡ true → Takes s 1 → ClosesOne (s ∷ []) 1
+  close_one s e f h = λ n rest l.
+      let more : nat_le (n + 1) 1 ≡ false = lt-leb (n + 1) 1 (omega (arith, l)) in
+      let less : (n + 1) - 1 ≡ n = omega arith in
+      rw (e, f, more, less) (wider_same (lexeme_columns style.compact s rest) 1 (to_close n rest) (h rest))
 
--- a lexeme alone
-over_alone : (s : List ℕ) → opens s ≡ false → closes s ≡ false → GoesOver (s ∷ [])
-over_alone s e f = λ n rest l. over_word n s rest e f ∙ wider_same (lexeme_columns s) (lexeme_columns s + 0) (width_to_close n rest)
-    (omega arith)
+  close_last : (s : List ℕ) → opens s ≡ false → closes s ≡ true → Takes s 1 → ClosesLast (s ∷ []) 1
+  close_last s e f h = λ rest. rw (e, f) (ap Some (h rest))
 
-over_key : (k : List ℕ) → ends_word k ≡ false → GoesOver (k ∷ (ascii.colon ∷ []) ∷ [])
-over_key k e =
-    let plain = formed_plain k e in
-    over_both (k ∷ []) ((58 ∷ []) ∷ []) (over_alone k plain.opens plain.closes) (over_alone (58 ∷ []) refl refl)
+  -- a bracket that opens a list, and what closes it
+  over_list : (s : List ℕ) (ss : List (List ℕ)) (w v : ℕ) → opens s ≡ true
+      → ((rest : List (List ℕ)) → lexeme_columns style.compact s (ss ++ rest) ≡ w) → ClosesOne ss v → GoesOver (s ∷ ss) (w + v)
+  over_list s ss w v e c h = λ n rest l.
+      rw e
+      (ap (wider (lexeme_columns style.compact s (ss ++ rest))) (h n rest l)
+      ∙ wider_twice (lexeme_columns style.compact s (ss ++ rest)) v (to_close n rest)
+      ∙ wider_same (lexeme_columns style.compact s (ss ++ rest) + v) (w + v) (to_close n rest) (ap (λ (k : ℕ). k + v) (c rest)))
 
-over_comma : GoesOver ((ascii.comma ∷ []) ∷ [])
-over_comma = over_alone (44 ∷ []) refl refl
+  -- a lexeme that neither opens nor closes a list
+  over_alone : (s : List ℕ) (w : ℕ) → opens s ≡ false → closes s ≡ false → Takes s w → GoesOver (s ∷ []) w
+  over_alone s w e f h = λ n rest l. rw (e, f) (wider_same (lexeme_columns style.compact s rest) w (to_close n rest) (h rest))
 
--- ---- values
+  word_columns : (s : List ℕ) → IsPlain s → Takes s (text_width s)
+  word_columns s p = λ rest. rw (p.mark, p.brace) (plus_nothing (text_width s))
 
-mutual
-  -- a search for what closes a list goes over the values in it
-  pub over_value : (v : Value) → IsFormed v → GoesOver (spelled v)
-  over_value (alone s) h = let plain = formed_plain s h in over_alone s plain.opens plain.closes
-  over_value (array no_items) h = over_list (91 ∷ []) ((93 ∷ []) ∷ []) refl (close_one (93 ∷ []) refl refl)
-  over_value (array (item v vs)) h = over_list (91 ∷ []) (spelled v ++ more_items vs) refl
-      (over_then_close (spelled v) (more_items vs) (over_value v h.0) (more_close vs h.1))
-  over_value (object no_members) h = over_list (123 ∷ []) ((125 ∷ []) ∷ []) refl (close_one (125 ∷ []) refl refl)
-  over_value (object (g.member k v ms)) h =
-      over_list (123 ∷ []) (k ∷ (58 ∷ []) ∷ (spelled v ++ more_members ms)) refl
-      (over_then_close (k ∷ (58 ∷ []) ∷ []) (spelled v ++ more_members ms) (over_key k (key_formed k h.0))
-      (over_then_close (spelled v) (more_members ms) (over_value v h.1) (more_members_close ms h.2)))
+  over_word : (s : List ℕ) → ends_word s ≡ false → GoesOver (s ∷ []) (text_width s)
+  over_word s e = let p = formed_plain s e in over_alone s (text_width s) p.opens p.closes (word_columns s p)
 
-  more_close : (vs : Items) → AreFormedItems vs → ClosesOne (more_items vs)
-  more_close no_items h = close_one (93 ∷ []) refl refl
-  more_close (item v vs) h =
-      over_then_close ((44 ∷ []) ∷ []) (spelled v ++ more_items vs) over_comma
-      (over_then_close (spelled v) (more_items vs) (over_value v h.0) (more_close vs h.1))
+  over_key : (k : List ℕ) → ends_word k ≡ false → GoesOver (k ∷ (ascii.colon ∷ []) ∷ []) (text_width k + 2)
+  over_key k e =
+      over_both (k ∷ []) ((58 ∷ []) ∷ []) (text_width k) 2 (over_word k e) (over_alone (58 ∷ []) 2 refl refl (λ rest. refl))
 
-  more_members_close : (ms : Members) → AreFormedMembers ms → ClosesOne (more_members ms)
-  more_members_close no_members h = close_one (125 ∷ []) refl refl
-  more_members_close (g.member k v ms) h =
-      over_then_close ((44 ∷ []) ∷ k ∷ (58 ∷ []) ∷ []) (spelled v ++ more_members ms)
-      (over_both ((44 ∷ []) ∷ []) (k ∷ (58 ∷ []) ∷ []) over_comma (over_key k (key_formed k h.0)))
-      (over_then_close (spelled v) (more_members ms) (over_value v h.1) (more_members_close ms h.2))
+  over_comma : GoesOver ((ascii.comma ∷ []) ∷ []) 2
+  over_comma = over_alone (44 ∷ []) 2 refl refl (λ rest. refl)
 
--- the items of an array after one, up to its bracket
-pub more_items_width : (vs : Items) → AreFormedItems vs → ClosesLast (more_items vs)
-more_items_width no_items h = close_last (93 ∷ []) refl refl
-more_items_width (item v vs) h =
-    over_then_last ((44 ∷ []) ∷ []) (spelled v ++ more_items vs) over_comma
-    (over_then_last (spelled v) (more_items vs) (over_value v h.0) (more_items_width vs h.1))
+  over_same : (ss : List (List ℕ)) (w v : ℕ) → w ≡ v → GoesOver ss w → GoesOver ss v
+  over_same ss w v e h = subst (GoesOver ss) e h
 
--- those of an array: the search finds their width, with the bracket
-pub items_width : (vs : Items) → AreFormedItems vs → ClosesLast (spelled_items vs)
-items_width no_items h = close_last (93 ∷ []) refl refl
-items_width (item v vs) h = over_then_last (spelled v) (more_items vs) (over_value v h.0) (more_items_width vs h.1)
+  close_same : (ss : List (List ℕ)) (w v : ℕ) → w ≡ v → ClosesOne ss w → ClosesOne ss v
+  close_same ss w v e h = subst (ClosesOne ss) e h
 
-pub more_members_width : (ms : Members) → AreFormedMembers ms → ClosesLast (more_members ms)
-more_members_width no_members h = close_last (125 ∷ []) refl refl
-more_members_width (g.member k v ms) h =
-    over_then_last ((44 ∷ []) ∷ k ∷ (58 ∷ []) ∷ []) (spelled v ++ more_members ms)
-    (over_both ((44 ∷ []) ∷ []) (k ∷ (58 ∷ []) ∷ []) over_comma (over_key k (key_formed k h.0)))
-    (over_then_last (spelled v) (more_members ms) (over_value v h.1) (more_members_width ms h.2))
+  -- ---- braces
 
--- those of an object, with the brace
-pub members_width : (ms : Members) → AreFormedMembers ms → ClosesLast (spelled_members ms)
-members_width no_members h = close_last (125 ∷ []) refl refl
-members_width (g.member k v ms) h =
-    over_then_last (k ∷ (58 ∷ []) ∷ []) (spelled v ++ more_members ms) (over_key k (key_formed k h.0))
-    (over_then_last (spelled v) (more_members ms) (over_value v h.1) (more_members_width ms h.2))
+  -- the columns of a blank inside them
+  abbrev pub blank : ℕ
+  blank = flat_width (brace_blank style)
 
--- ---- lists
+  -- a brace that opens an object with members, and both blanks
+  pub brace_columns : (k : List ℕ) (ss : List (List ℕ)) → closes k ≡ false
+      → lexeme_columns style.compact (ascii.open_brace ∷ []) (k ∷ ss) ≡ 1 + (blank + blank)
+  brace_columns k ss e = by style.compact
+    where
+      by : (b : Bool) → lexeme_columns b (123 ∷ []) (k ∷ ss) ≡ 1 + (flat_width (blank_if (not b)) + flat_width (blank_if (not b)))
+      by true = rw e refl
+      by false = rw e refl
 
-found : (w v : ℕ) → Some w ≡ Some v → v ≡ w
-found w v e = cc
+  -- the members of an object after one, up to its brace, without a blank before that
+  abbrev pub more_width : Members → ℕ
+  more_width no_members = 1
+  more_width (g.member k v ms) = 2 + ((text_width k + 2) + (flat_width (flat style v) + more_width ms))
+
+  -- all members
+  abbrev pub all_width : Members → ℕ
+  all_width no_members = 1
+  all_width (g.member k v ms) = (text_width k + 2) + (flat_width (flat style v) + more_width ms)
+
+  blank_more : (ms : Members) → flat_width (more_flat_members style ms) ≡ more_width ms + blank
+  blank_more no_members = let h = width_joined (brace_blank style) ((125 ∷ []) ∷ []) in omega (arith, h)
+  blank_more (g.member k v ms) =
+      let h = blank_more ms in let j = width_joined (flat style v) (more_flat_members style ms) in omega (arith, h, j)
+
+  -- with both blanks
+  pub blank_all : (k : List ℕ) (v : Value) (ms : Members)
+      → (1 + (blank + blank)) + all_width (g.member k v ms) ≡ flat_width (flat style (object (g.member k v ms)))
+  blank_all k v ms =
+      let h = blank_more ms in
+      let i = width_joined (brace_blank style) (k ∷ (58 ∷ []) ∷ (32 ∷ []) ∷ (flat style v ++ more_flat_members style ms)) in
+      let j = width_joined (flat style v) (more_flat_members style ms) in
+      omega (arith, h, i, j)
+
+  -- ---- values
+
+  item_width : (v : Value) (vs : Items)
+      → flat_width (flat style v) + flat_width (more_flat_items style vs) ≡ flat_width (flat style v ++ more_flat_items style vs)
+  item_width v vs = sym (width_joined (flat style v) (more_flat_items style vs))
+
+  array_width : (v : Value) (vs : Items)
+      → 1 + (flat_width (flat style v) + flat_width (more_flat_items style vs)) ≡ flat_width (flat style (array (item v vs)))
+  array_width v vs = let h = item_width v vs in omega (arith, h)
+
+  comma_width : (v : Value) (vs : Items)
+      → 2 + (flat_width (flat style v) + flat_width (more_flat_items style vs)) ≡ flat_width (more_flat_items style (item v vs))
+  comma_width v vs = let h = item_width v vs in omega (arith, h)
+
+  mutual
+    -- a search for what closes a list goes over the values in it
+    pub over_value : (v : Value) → IsFormed v → GoesOver (spelled v) (flat_width (flat style v))
+    over_value (alone s) h = over_same (s ∷ []) (text_width s) (text_width s + 0) (sym (plus_nothing (text_width s))) (over_word s h)
+    over_value (array no_items) h =
+        over_list (91 ∷ []) ((93 ∷ []) ∷ []) 1 1 refl (λ rest. refl) (close_one (93 ∷ []) refl refl (λ rest. refl))
+    over_value (array (item v vs)) h =
+        over_same ((91 ∷ []) ∷ (spelled v ++ more_items vs)) _ _ (array_width v vs)
+        (over_list (91 ∷ []) (spelled v ++ more_items vs) 1 _ refl (λ rest. refl)
+        (over_then_close (spelled v) (more_items vs) _ _ (over_value v h.0) (more_close vs h.1)))
+    over_value (object no_members) h =
+        over_list (123 ∷ []) ((125 ∷ []) ∷ []) 1 1 refl (λ rest. refl) (close_one (125 ∷ []) refl refl (λ rest. refl))
+    over_value (object (g.member k v ms)) h =
+        let key = key_formed k h.0 in
+        over_same ((123 ∷ []) ∷ k ∷ (58 ∷ []) ∷ (spelled v ++ more_members ms)) _ _ (blank_all k v ms)
+        (over_list (123 ∷ []) (k ∷ (58 ∷ []) ∷ (spelled v ++ more_members ms)) (1 + (blank + blank)) (all_width (g.member k v ms)) refl
+        (λ rest. brace_columns k ((58 ∷ []) ∷ ((spelled v ++ more_members ms) ++ rest)) (formed_plain k key).closes)
+        (over_then_close (k ∷ (58 ∷ []) ∷ []) (spelled v ++ more_members ms) (text_width k + 2) _ (over_key k key)
+        (over_then_close (spelled v) (more_members ms) _ _ (over_value v h.1) (more_members_close ms h.2))))
+
+    more_close : (vs : Items) → AreFormedItems vs → ClosesOne (more_items vs) (flat_width (more_flat_items style vs))
+    more_close no_items h = close_one (93 ∷ []) refl refl (λ rest. refl)
+    more_close (item v vs) h =
+        close_same ((44 ∷ []) ∷ (spelled v ++ more_items vs)) _ _ (comma_width v vs)
+        (over_then_close ((44 ∷ []) ∷ []) (spelled v ++ more_items vs) 2 _ over_comma
+        (over_then_close (spelled v) (more_items vs) _ _ (over_value v h.0) (more_close vs h.1)))
+
+    more_members_close : (ms : Members) → AreFormedMembers ms → ClosesOne (more_members ms) (more_width ms)
+    more_members_close no_members h = close_one (125 ∷ []) refl refl (λ rest. refl)
+    more_members_close (g.member k v ms) h =
+        over_then_close ((44 ∷ []) ∷ []) (k ∷ (58 ∷ []) ∷ (spelled v ++ more_members ms)) 2 _ over_comma
+        (over_then_close (k ∷ (58 ∷ []) ∷ []) (spelled v ++ more_members ms) (text_width k + 2) _ (over_key k (key_formed k h.0))
+        (over_then_close (spelled v) (more_members ms) _ _ (over_value v h.1) (more_members_close ms h.2)))
+
+  -- ---- lists
+
+  -- the items of an array after one, up to its bracket
+  more_items_width : (vs : Items) → AreFormedItems vs → ClosesLast (more_items vs) (flat_width (more_flat_items style vs))
+  more_items_width no_items h = close_last (93 ∷ []) refl refl (λ rest. refl)
+  more_items_width (item v vs) h =
+      subst (ClosesLast (more_items (item v vs))) (comma_width v vs)
+      (over_then_last ((44 ∷ []) ∷ []) (spelled v ++ more_items vs) 2 _ over_comma
+      (over_then_last (spelled v) (more_items vs) _ _ (over_value v h.0) (more_items_width vs h.1)))
+
+  -- those of an array: the search finds their width, with the bracket
+  pub items_width : (vs : Items) → AreFormedItems vs → ClosesLast (spelled_items vs) (flat_width (flat_items style vs))
+  items_width no_items h = close_last (93 ∷ []) refl refl (λ rest. refl)
+  items_width (item v vs) h =
+      subst (ClosesLast (spelled_items (item v vs))) (item_width v vs)
+      (over_then_last (spelled v) (more_items vs) _ _ (over_value v h.0) (more_items_width vs h.1))
+
+  more_members_width : (ms : Members) → AreFormedMembers ms → ClosesLast (more_members ms) (more_width ms)
+  more_members_width no_members h = close_last (125 ∷ []) refl refl (λ rest. refl)
+  more_members_width (g.member k v ms) h =
+      over_then_last ((44 ∷ []) ∷ []) (k ∷ (58 ∷ []) ∷ (spelled v ++ more_members ms)) 2 _ over_comma
+      (over_then_last (k ∷ (58 ∷ []) ∷ []) (spelled v ++ more_members ms) (text_width k + 2) _ (over_key k (key_formed k h.0))
+      (over_then_last (spelled v) (more_members ms) _ _ (over_value v h.1) (more_members_width ms h.2)))
+
+  -- those of an object, with the brace, and without blanks
+  pub members_width : (ms : Members) → AreFormedMembers ms → ClosesLast (spelled_members ms) (all_width ms)
+  members_width no_members h = close_last (125 ∷ []) refl refl (λ rest. refl)
+  members_width (g.member k v ms) h =
+      over_then_last (k ∷ (58 ∷ []) ∷ []) (spelled v ++ more_members ms) (text_width k + 2) _ (over_key k (key_formed k h.0))
+      (over_then_last (spelled v) (more_members ms) _ _ (over_value v h.1) (more_members_width ms h.2))

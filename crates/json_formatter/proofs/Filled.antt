@@ -1,4 +1,4 @@
--- Numbers are laid in lines that are filled.
+-- Items are laid in lines that are filled.
 use Rattle.std.proofs.Common.{◌≡◌, refl, sym, ◌∙◌, ap, subst, ℕ, suc, ◌+◌, ◌≤◌, Bool, true, false, ◌&&◌, nat_le, List, [], ◌∷◌, ◌++◌}
 use Rattle.std.proofs.Common.{length, append_assoc, append-nil}
 use Rattle.std.proofs.lemmas.Bool.{and_parts}
@@ -18,15 +18,15 @@ use Rattle.prettyless.specs.Counted.{text}
 use Rattle.prettyless.specs.Lines.{line, space}
 use Rattle.prettyless.specs.Tree.{Tree, Text, Append}
 use Rattle.json_formatter.specs.declared.style.Style.{Style}
-use Rattle.json_formatter.specs.ByValue.{are_numbers, filled_after, filled_lines, item_comma, new_line}
-use Rattle.json_formatter.specs.Documents.{is_number}
+use Rattle.json_formatter.specs.ByValue.{filled_after, filled_lines, item_comma, items_fill, new_line}
+use Rattle.json_formatter.specs.Documents.{may_fill}
 use Rattle.json_formatter.specs.Flat.{flat_line, flat_width}
 use Rattle.json_formatter.proofs.Chains.{append_is, chain, text_some}
-use Rattle.json_formatter.proofs.FlatTrees.{line_of, plus_nothing, width_of}
+use Rattle.json_formatter.proofs.FlatTrees.{plus_nothing}
 use Rattle.json_formatter.proofs.LaidLists.{Lays, LaysLines, word_lays}
 use Rattle.json_formatter.proofs.LaidParts.{At, StandsAt, in_break, Writes, Follows, greatest, then_writes, writes_same, writes_rested}
 use Rattle.json_formatter.proofs.LaidParts.{text_writes, line_writes, end_follows, comma_follows, sum_twice, text_fits_as, word_follows}
-use Rattle.json_formatter.proofs.ValueTrees.{tree, item_trees, item_marked, formed_plain}
+use Rattle.json_formatter.proofs.ValueTrees.{tree, item_trees, item_marked}
 
 -- ---- one number
 
@@ -120,26 +120,26 @@ one_more {style} {n} {j} {c} {z} {b} {st} {y} s vs l e h fit = record {
 
 -- ---- numbers
 
-number_line : (s : List ℕ) → ends_word s ≡ false → flat_line (s ∷ []) ≡ s
-number_line s e = line_of s [] (formed_plain s e).mark ∙ append-nil s
+number_line : (s : List ℕ) → flat_line (s ∷ []) ≡ s
+number_line s = append-nil s
 
-number_width : (s : List ℕ) → ends_word s ≡ false → flat_width (s ∷ []) ≡ text_width s
-number_width s e = width_of s [] (formed_plain s e).mark ∙ plus_nothing (text_width s)
+number_width : (s : List ℕ) → flat_width (s ∷ []) ≡ text_width s
+number_width s = plus_nothing (text_width s)
 
 -- what the definition has for one more number
-filled_more : (style : Style) (j c : ℕ) (s : List ℕ) (vs : Items) (y : Bool) → ends_word s ≡ false
+filled_more : (style : Style) (j c : ℕ) (s : List ℕ) (vs : Items) (y : Bool)
     → nat_le (saturating_add c (1 + (text_width s + length (item_comma vs)))) style.width ≡ y
     → filled_after style j c (item (alone s) vs)
     ≡ gap_bytes j y ++ ((s ++ item_comma vs) ++ filled_after style j (saturating_add (gap_end c j y)
     (text_width s + length (item_comma vs))) vs)
-filled_more style j c s vs true e fit =
-    rw (number_line s e, number_width s e, sum_twice c 1 (text_width s + length (item_comma vs)), fit) refl
-filled_more style j c s vs false e fit =
-    rw (number_line s e, number_width s e, sum_twice c 1 (text_width s + length (item_comma vs)), fit) refl
+filled_more style j c s vs true fit =
+    rw (number_line s, number_width s, sum_twice c 1 (text_width s + length (item_comma vs)), fit) refl
+filled_more style j c s vs false fit =
+    rw (number_line s, number_width s, sum_twice c 1 (text_width s + length (item_comma vs)), fit) refl
 
 -- numbers after a document that ends at column c
-filled_lay : {style : Style} {n j : ℕ} {st : State} (vs : Items) {c : ℕ} {z : Tree} {b : List ℕ} → j ≤ greatest → are_numbers vs ≡ true
-    → AreFormedItems vs → LaysTo style n z j st b c
+filled_lay : {style : Style} {n j : ℕ} {st : State} (vs : Items) {c : ℕ} {z : Tree} {b : List ℕ} → j ≤ greatest
+    → items_fill style.fill vs ≡ true → AreFormedItems vs → LaysTo style n z j st b c
     → Lays style n (chain softline z (item_trees style vs)) j st (b ++ filled_after style j c vs)
 filled_lay no_items {b = b} l e h before = record {
   written = λ rest f. writes_same refl (append-nil b) (writes_rested (before.written rest f));
@@ -148,24 +148,25 @@ filled_lay {style} {n} {j} {st} (item (alone s) vs) {c} {z} {b} l e h before =
     let w = text_width s + length (item_comma vs) in
     let y = nat_le (saturating_add c (1 + w)) style.width in
     let more = one_more {y = y} s vs l h.0 before refl in
-    let later = filled_lay vs l (and_parts (is_number s) (are_numbers vs) e).1 h.1 more in
+    let later = filled_lay vs l (and_parts (may_fill style.fill s) (items_fill style.fill vs) e).1 h.1 more in
     subst (Lays style n (chain softline z (item_trees style (item (alone s) vs))) j st)
     (append_assoc b (gap_bytes j y ++ (s ++ item_comma vs)) _
-    ∙ ap (λ (x : List ℕ). b ++ x) (append_assoc (gap_bytes j y) (s ++ item_comma vs) _ ∙ sym (filled_more style j c s vs y h.0 refl)))
+    ∙ ap (λ (x : List ℕ). b ++ x) (append_assoc (gap_bytes j y) (s ++ item_comma vs) _ ∙ sym (filled_more style j c s vs y refl)))
     later
 filled_lay (item (array ws) vs) l e h before = absurd (cc)
 filled_lay (item (object ms) vs) l e h before = absurd (cc)
 
 -- the first number, and those after it
-pub filled_numbers : (style : Style) (n j : ℕ) (v : Value) (vs : Items) → j ≤ greatest → are_numbers (item v vs) ≡ true
+pub filled_items : (style : Style) (n j : ℕ) (v : Value) (vs : Items) → j ≤ greatest → items_fill style.fill (item v vs) ≡ true
     → AreFormedItems (item v vs)
     → LaysLines style n j true (item_marked (tree style v) vs) (item_trees style vs) (filled_lines style j (item v vs))
-filled_numbers style n j (alone s) vs l e h =
+filled_items style n j (alone s) vs l e h =
     let w = text_width s + length (item_comma vs) in
     record {
       bytes = (s ++ item_comma vs) ++ filled_after style j (saturating_add j w) vs;
-      is = rw (number_line s h.0, number_width s h.0) refl;
-      lays = λ u r. filled_lay vs l (and_parts (is_number s) (are_numbers vs) e).1 h.1 (number_lays style n j j s vs u h.0 r);
+      is = rw (number_line s, number_width s) refl;
+      lays = λ u r.
+          filled_lay vs l (and_parts (may_fill style.fill s) (items_fill style.fill vs) e).1 h.1 (number_lays style n j j s vs u h.0 r);
     }
-filled_numbers style n j (array ws) vs l e h = absurd (cc)
-filled_numbers style n j (object ms) vs l e h = absurd (cc)
+filled_items style n j (array ws) vs l e h = absurd (cc)
+filled_items style n j (object ms) vs l e h = absurd (cc)

@@ -1,20 +1,22 @@
--- What is read ahead where a list is opened: its columns, the comma after it, and whether numbers alone stand in it.
+-- What is read ahead where a list is opened: its columns, the comma after it, and whether its items may fill lines.
 use Rattle.std.proofs.Common.{◌≡◌, refl, ◌∙◌, ap, ℕ, ◌+◌, ◌-◌, ◌≤◌, Bool, true, false, ◌&&◌, ◌||◌, nat_le, List, [], ◌∷◌, ◌++◌, Some, inl}
 use Rattle.std.proofs.Common.{inr, ◌⊎◌, leb-true, arith}
 use Rattle.std.specs.Prelude.{if◌then◌else◌}
 use Rattle.std.proofs.lemmas.Bool.{cases_Bool}
-use Rattle.std.proofs.Math.Bool.{or-false}
-use Rattle.json.specs.Word.{head}
-use Rattle.json_lexemes.specs.Grammar.{Value, alone, array, object, Items, no_items, item, Members, member}
-use Rattle.json_lexemes.specs.Grammar.{spelled_items, more_items, spelled_members}
-use Rattle.json_lexemes.specs.Grammar.{items_depth, members_depth, AreFormedItems, AreFormedMembers}
-use Rattle.json_formatter.specs.ByValue.{are_numbers}
-use Rattle.json_formatter.specs.Documents.{is_number, is_json_sign, next_is}
+use Rattle.std.proofs.Math.Bool.{or-false, or-true}
+use Rattle.json_lexemes.specs.Grammar.{Value, alone, array, object, Items, no_items, item, Members}
+use Rattle.json_lexemes.specs.Grammar.{spelled, spelled_items, more_items, spelled_members}
+use Rattle.json_lexemes.specs.Grammar.{items_depth, members_depth, IsFormed, AreFormedItems, AreFormedMembers}
+use Rattle.json_formatter.specs.declared.style.Fill.{Fill}
+use Rattle.json_formatter.specs.declared.style.Style.{Style}
+use Rattle.json_formatter.specs.ByValue.{flat_items, items_fill}
+use Rattle.json_formatter.specs.Documents.{is_json_sign, may_fill, next_is}
 use Rattle.json_formatter.specs.Flat.{flat_width, width_to_close}
-use Rattle.json_formatter.specs.Gaps.{comma_after, only_numbers}
-use Rattle.json_formatter.proofs.Closing.{items_width, members_width}
+use Rattle.json_formatter.specs.Gaps.{all_fill, comma_after}
+use Rattle.json_formatter.proofs.Closing.{all_width, items_width, members_width}
 use Rattle.json_formatter.proofs.GapsPassed.{HasRoom, Walks, items_pass, members_pass, steps}
-use Rattle.json_formatter.proofs.GapsWords.{key_no_number, key_word, word_formed}
+use Rattle.json_formatter.proofs.GapsWords.{word_formed}
+use Rattle.json_formatter.proofs.ValueTrees.{array_fills, object_fills}
 
 -- ---- how many lists are open
 
@@ -59,48 +61,54 @@ first_list more = record { some = omega arith; within = omega arith }
 -- ---- the rest of a list, after the bracket that opens it
 
 -- its columns, and the comma after it
-pub record IsReadAhead (rest : List (List ℕ)) : Type 0 where
-  pub width : (ss : List (List ℕ)) → width_to_close 1 (rest ++ ss) ≡ Some (flat_width rest)
+pub record IsReadAhead (style : Style) (rest : List (List ℕ)) (columns : ℕ) : Type 0 where
+  pub width : (ss : List (List ℕ)) → width_to_close style.compact 1 (rest ++ ss) ≡ Some columns
   pub comma : (ss : List (List ℕ)) → comma_after 1 (rest ++ ss) ≡ next_is (is_json_sign 44) ss
 
-pub items_ahead : (vs : Items) → AreFormedItems vs → IsReadAhead (spelled_items vs)
-items_ahead vs h =
+pub items_ahead : (style : Style) (vs : Items) → AreFormedItems vs
+    → IsReadAhead style (spelled_items vs) (flat_width (flat_items style vs))
+items_ahead style vs h =
     let limit = 1 + items_depth vs in
     record {
-      width = items_width vs h;
+      width = items_width style vs h;
       comma = λ ss.
           items_pass Bool limit same_comma comma_after comma_left (comma_walk limit) vs h (first_list (items_depth vs)) ss
           ∙ comma_stays (spelled_items vs) (next_is (is_json_sign 44) ss);
     }
 
-pub members_ahead : (ms : Members) → AreFormedMembers ms → IsReadAhead (spelled_members ms)
-members_ahead ms h =
+pub members_ahead : (style : Style) (ms : Members) → AreFormedMembers ms → IsReadAhead style (spelled_members ms) (all_width style ms)
+members_ahead style ms h =
     let limit = 1 + members_depth ms in
     record {
-      width = members_width ms h;
+      width = members_width style ms h;
       comma = λ ss.
           members_pass Bool limit same_comma comma_after comma_left (comma_walk limit) ms h (first_list (members_depth ms)) ss
           ∙ comma_stays (spelled_members ms) (next_is (is_json_sign 44) ss);
     }
 
--- ---- numbers alone
+-- ---- items that may fill lines
 
-more_numbers : (vs : Items) → AreFormedItems vs → (ss : List (List ℕ)) → only_numbers (more_items vs ++ ss) ≡ are_numbers vs
-more_numbers no_items h ss = refl
-more_numbers (item (alone s) vs) h ss =
-    let word = word_formed s h.0 in
+-- an item, and others after it
+one_fills : (fill : Fill) (v : Value) (vs : Items) → IsFormed v → (ss : List (List ℕ))
+    → all_fill fill (more_items vs ++ ss) ≡ items_fill fill vs
+    → all_fill fill ((spelled v ++ more_items vs) ++ ss) ≡ items_fill fill (item v vs)
+one_fills fill (alone s) vs h ss e =
+    let word = word_formed s h in
     rw (word.closes, word.comma)
-    (ap (λ (b : Bool). (is_number s || false) && b) (more_numbers vs h.1 ss)
-    ∙ ap (λ (b : Bool). b && are_numbers vs) (or-false (is_number s)))
-more_numbers (item (array ws) vs) h ss = refl
-more_numbers (item (object ms) vs) h ss = refl
+    (ap (λ (b : Bool). (may_fill fill s || false) && b) e ∙ ap (λ (b : Bool). b && items_fill fill vs) (or-false (may_fill fill s)))
+one_fills fill (array ws) vs h ss e = rw (array_fills fill) refl
+one_fills fill (object ms) vs h ss e = rw (object_fills fill) refl
 
-pub items_numbers : (vs : Items) → AreFormedItems vs → (ss : List (List ℕ)) → only_numbers (spelled_items vs ++ ss) ≡ are_numbers vs
-items_numbers no_items h ss = refl
-items_numbers (item v vs) h ss = more_numbers (item v vs) h ss
+-- a comma before them
+comma_fills : (fill : Fill) (ss : List (List ℕ)) → all_fill fill ((44 ∷ []) ∷ ss) ≡ all_fill fill ss
+comma_fills fill ss = ap (λ (b : Bool). b && all_fill fill ss) (or-true (may_fill fill (44 ∷ [])))
 
-pub members_no_numbers : (k : List ℕ) (v : Value) (ms : Members) → head k ≡ 34 → (ss : List (List ℕ))
-    → only_numbers (spelled_members (member k v ms) ++ ss) ≡ false
-members_no_numbers k v ms e ss =
-    let key = key_word k e in
-    rw (key.closes, key.comma, key_no_number k e) refl
+more_fill : (fill : Fill) (vs : Items) → AreFormedItems vs → (ss : List (List ℕ)) → all_fill fill (more_items vs ++ ss) ≡ items_fill fill vs
+more_fill fill no_items h ss = refl
+more_fill fill (item v vs) h ss =
+    comma_fills fill ((spelled v ++ more_items vs) ++ ss) ∙ one_fills fill v vs h.0 ss (more_fill fill vs h.1 ss)
+
+pub items_all_fill : (fill : Fill) (vs : Items) → AreFormedItems vs → (ss : List (List ℕ))
+    → all_fill fill (spelled_items vs ++ ss) ≡ items_fill fill vs
+items_all_fill fill no_items h ss = refl
+items_all_fill fill (item v vs) h ss = one_fills fill v vs h.0 ss (more_fill fill vs h.1 ss)

@@ -6,9 +6,9 @@ use Rattle.json_lexemes.specs.Grammar.{Value, alone, array, object, Items, no_it
 use Rattle.json_lexemes.specs.Grammar.{spelled_items, more_items, AreFormedItems}
 use Rattle.prettyless_model.specs.Column.{saturating_add}
 use Rattle.prettyless_model.specs.Metrics.{text_width}
-use Rattle.json_formatter.specs.ByValue.{are_numbers, end_column, filled_after, filled_lines, fits_width, flat_item, item_comma, item_end}
+use Rattle.json_formatter.specs.ByValue.{end_column, filled_after, filled_lines, fits_width, flat_item, item_comma, item_end, items_fill}
 use Rattle.json_formatter.specs.ByValue.{new_line}
-use Rattle.json_formatter.specs.Documents.{is_number, is_json_sign, next_is}
+use Rattle.json_formatter.specs.Documents.{is_json_sign, may_fill, next_is}
 use Rattle.json_formatter.specs.Flat.{flat_line, flat_width}
 use Rattle.json_formatter.specs.Gaps.{indent_at, laid_from, number_fits}
 use Rattle.json_formatter.specs.declared.gaps.Joint.TheVariants as joint
@@ -19,33 +19,33 @@ use Rattle.json_formatter.proofs.GapsSteps.{Lays, close_next, closing_line, fill
 use Rattle.json_formatter.proofs.GapsSteps.{outside, word_next}
 use Rattle.json_formatter.proofs.GapsWords.{IsWord, word_begins, word_formed}
 
-pub both_hold : (a b : Bool) → (a && b) ≡ true → (a ≡ true) × (b ≡ true)
+both_hold : (a b : Bool) → (a && b) ≡ true → (a ≡ true) × (b ≡ true)
 both_hold true b e = (refl, e)
 both_hold false b e = absurd (cc)
 
 -- ---- a word
 
-word_line : (s : List ℕ) → IsWord s → flat_line (s ∷ []) ≡ s
-word_line s w = rw (w.comma, w.colon) (append-nil s)
+word_line : (s : List ℕ) → flat_line (s ∷ []) ≡ s
+word_line s = append-nil s
 
-word_width : (s : List ℕ) → IsWord s → flat_width (s ∷ []) ≡ text_width s
-word_width s w = rw (w.comma, w.colon) (omega arith)
+word_width : (s : List ℕ) → flat_width (s ∷ []) ≡ text_width s
+word_width s = omega arith
 
 sum_twice : (c w k : ℕ) → saturating_add (saturating_add c w) k ≡ saturating_add c (w + k)
 sum_twice c w k = omega arith
 
 -- the column where it ends, with k columns after it
-word_end : (s : List ℕ) (c k : ℕ) → IsWord s → saturating_add (saturating_add c (text_width s)) k ≡ end_column c (s ∷ []) k
-word_end s c k w = sum_twice c (text_width s) k ∙ ap (λ (n : ℕ). saturating_add c (n + k)) (sym (word_width s w))
+word_end : (s : List ℕ) (c k : ℕ) → saturating_add (saturating_add c (text_width s)) k ≡ end_column c (s ∷ []) k
+word_end s c k = sum_twice c (text_width s) k ∙ ap (λ (n : ℕ). saturating_add c (n + k)) (sym (word_width s))
 
 -- it fits the line after a space, with its comma
-word_fits : (style : Style) (s : List ℕ) (c : ℕ) (vs : Items) (ss : List (List ℕ)) → IsWord s
+word_fits : (style : Style) (s : List ℕ) (c : ℕ) (vs : Items) (ss : List (List ℕ))
     → number_fits style c s (next_is (is_json_sign 44) (more_items vs ++ ss))
     ≡ fits_width style (saturating_add c 1) (length (item_comma vs)) (s ∷ [])
-word_fits style s c vs ss w =
+word_fits style s c vs ss =
     let x = saturating_add (saturating_add c 1) (text_width s) in
     ap (λ (k : ℕ). nat_le (saturating_add x k) style.width) (items_comma vs ss)
-    ∙ ap (λ (n : ℕ). nat_le n style.width) (word_end s (saturating_add c 1) (length (item_comma vs)) w)
+    ∙ ap (λ (n : ℕ). nat_le n style.width) (word_end s (saturating_add c 1) (length (item_comma vs)))
 
 -- ---- numbers
 
@@ -70,7 +70,7 @@ module _ (style : Style) (d : ℕ) (ss : List (List ℕ)) where
 
   -- a number from column c on, and those after it
   abbrev from_column : ℕ → List ℕ → Items → List ℕ
-  from_column c s vs = flat_item (alone s) vs ++ filled_after style further (item_end c (alone s) vs) vs
+  from_column c s vs = flat_item style (alone s) vs ++ filled_after style further (item_end style c (alone s) vs) vs
 
   number_lays : (c : ℕ) (s : List ℕ) (vs : Items) → IsWord s → MoreLay vs
       → Lays style (filling d c joint.Nothing) (s ∷ (more_items vs ++ ss)) (from_column c s vs ++ close) d ss
@@ -79,8 +79,8 @@ module _ (style : Style) (d : ℕ) (ss : List (List ℕ)) where
       let comma = item_comma vs in
       let later = filled_after style further (saturating_add x (length comma)) vs in
       let same : (s ++ comma) ++ later ≡ from_column c s vs =
-      ap (λ (n : ℕ). (s ++ comma) ++ filled_after style further n vs) (word_end s c (length comma) w)
-      ∙ ap (λ (l : List ℕ). (l ++ comma) ++ filled_after style further (item_end c (alone s) vs) vs) (sym (word_line s w)) in
+      ap (λ (n : ℕ). (s ++ comma) ++ filled_after style further n vs) (word_end s c (length comma))
+      ∙ ap (λ (l : List ℕ). (l ++ comma) ++ filled_after style further (item_end style c (alone s) vs) vs) (sym (word_line s)) in
       lays_same (s ++ (comma ++ (later ++ close))) (from_column c s vs ++ close)
       (sym (append_assoc (s ++ comma) later close ∙ append_assoc s comma (later ++ close)) ∙ ap (λ (l : List ℕ). l ++ close) same)
       (lays_after s (comma ++ (later ++ close)) (word_next style (d + 1) c true s (more_items vs ++ ss) w) (more x))
@@ -105,27 +105,28 @@ module _ (style : Style) (d : ℕ) (ss : List (List ℕ)) where
           ((if fit then 32 ∷ from_column (saturating_add c 1) s vs else new_line further ++ from_column further s vs) ++ close) d ss
       by true e =
           lays_after (32 ∷ []) (from_column (saturating_add c 1) s vs ++ close)
-          (fill_first style (d + 1) c true true s (more_items vs ++ ss) w (word_fits style s c vs ss w ∙ e))
+          (fill_first style (d + 1) c true true s (more_items vs ++ ss) w (word_fits style s c vs ss ∙ e))
           (number_lays (saturating_add c 1) s vs w more)
       by false e =
           line_lays (filling d c joint.Fill) s vs w more
-          (fill_first style (d + 1) c true false s (more_items vs ++ ss) w (word_fits style s c vs ss w ∙ e))
+          (fill_first style (d + 1) c true false s (more_items vs ++ ss) w (word_fits style s c vs ss ∙ e))
 
-  more_lay : (vs : Items) → AreFormedItems vs → are_numbers vs ≡ true → MoreLay vs
+  more_lay : (vs : Items) → AreFormedItems vs → items_fill style.fill vs ≡ true → MoreLay vs
   more_lay no_items h e c = close_next style d c true 93 ss refl refl refl
   more_lay (item (alone s) vs) h e c =
       lays_after (44 ∷ []) (filled_after style further (saturating_add c 1) (item (alone s) vs) ++ close) refl
-      (next_number_lays (saturating_add c 1) s vs (word_formed s h.0) (more_lay vs h.1 (both_hold (is_number s) (are_numbers vs) e).1))
+      (next_number_lays (saturating_add c 1) s vs (word_formed s h.0)
+      (more_lay vs h.1 (both_hold (may_fill style.fill s) (items_fill style.fill vs) e).1))
   more_lay (item (array ws) vs) h e c = absurd (cc)
   more_lay (item (object ms) vs) h e c = absurd (cc)
 
   -- numbers in lines that are filled, and what closes the list
-  pub numbers_lay : (c : ℕ) (v : Value) (vs : Items) → AreFormedItems (item v vs) → are_numbers (item v vs) ≡ true
+  pub numbers_lay : (c : ℕ) (v : Value) (vs : Items) → AreFormedItems (item v vs) → items_fill style.fill (item v vs) ≡ true
       → Lays style (filling d c joint.Line) (spelled_items (item v vs) ++ ss) (filled_lines style further (item v vs) ++ close) d ss
   numbers_lay c (alone s) vs h e =
       let w = word_formed s h.0 in
       let after = more_items vs ++ ss in
-      line_lays (filling d c joint.Line) s vs w (more_lay vs h.1 (both_hold (is_number s) (are_numbers vs) e).1)
+      line_lays (filling d c joint.Line) s vs w (more_lay vs h.1 (both_hold (may_fill style.fill s) (items_fill style.fill vs) e).1)
       (line_first style (d + 1) c true (s ∷ after) (word_begins s after w))
   numbers_lay c (array ws) vs h e = absurd (cc)
   numbers_lay c (object ms) vs h e = absurd (cc)

@@ -1,4 +1,4 @@
--- A layout that keeps blank lines: its lexemes have gaps between them, and laid out again it keeps the same.
+-- A layout that keeps blank lines and is spelled out: its lexemes have gaps between them, and laid out again it stays.
 use Rattle.std.proofs.Common.{◌≡◌, refl, sym, ◌∙◌, ap, subst, ℕ, zero, suc, ◌+◌, Bool, true, false, ◌&&◌, nat_le, List, [], ◌∷◌, ◌++◌}
 use Rattle.std.proofs.Common.{append-nil, drop, Some}
 use Rattle.std.proofs.lemmas.Bool.{eqb-true}
@@ -9,6 +9,7 @@ use Rattle.json_lexemes.specs.Lexemes.{lexemes}
 use Rattle.json_lexemes.specs.Spaced.{IsGap, IsSpacedJson}
 use Rattle.json_lexemes.specs.SpacedLexemes.{AreGaps, Spaced, after_gap, has_blank_line, lexemes_of, line_feeds, put_together, spaced_as}
 use Rattle.json_lexemes.specs.SpacedLexemes.{spaced_lexemes}
+use Rattle.json_lexemes.proofs.LineEnds.{AreInline, lexemes_inline}
 use Rattle.json_lexemes.proofs.NotEmpty.{AreBegun, lexemes_begun}
 use Rattle.json_lexemes.proofs.Reading.{same_reading}
 use Rattle.json_lexemes.proofs.SpacedLexemes.{spaced_together, together_spaced}
@@ -18,10 +19,14 @@ use Rattle.json_formatter.specs.ByValue.{new_line}
 use Rattle.json_formatter.specs.Documents.{is_json_sign}
 use Rattle.json_formatter.specs.Gaps.{gap_before, gap_bytes, laid_from, spaced_from, start_state, state_after}
 use Rattle.json_formatter.specs.Kept.{kept_of, laid_left}
+use Rattle.json_formatter.specs.Spelling.{line_end_bytes, respelled_all, spelled_out, spelling_of, with_spelling}
 use Rattle.json_formatter.specs.declared.gaps.Gap.{Gap}
 use Rattle.json_formatter.specs.declared.gaps.Gap.TheVariants as gap
 use Rattle.json_formatter.specs.declared.gaps.State.{State}
+use Rattle.json_formatter.specs.declared.spelling.Spelling.{Spelling}
 use Rattle.json_formatter.specs.declared.style.Style.{Style}
+use Rattle.json_formatter.proofs.Respelled.{HaveNoReturns, end_gap, first_line_end, gap_no_return, kept_no_returns, respelled_are}
+use Rattle.json_formatter.proofs.Respelled.{respelled_gaps, respelled_kept, same_line_end}
 
 -- ---- a gap
 
@@ -112,9 +117,23 @@ chosen_are : (b : Bool) (sources ps : List Spaced) → lexemes_of (chosen b sour
 chosen_are false sources ps = refl
 chosen_are true sources ps = kept_are false sources ps
 
+chosen_no_returns : (b : Bool) (sources ps : List Spaced) → HaveNoReturns ps → HaveNoReturns (chosen b sources ps)
+chosen_no_returns false sources ps h = h
+chosen_no_returns true sources ps h = kept_no_returns false sources ps h
+
 chosen_again : (b : Bool) (sources ps : List Spaced) → chosen b (chosen b sources ps) ps ≡ chosen b sources ps
 chosen_again false sources ps = refl
 chosen_again true sources ps = kept_again false sources ps
+
+-- also after they are spelled anew
+chosen_respelled : (sp : Spelling) (b : Bool) (sources ps : List Spaced)
+    → chosen b (respelled_all sp (chosen b sources ps)) ps ≡ chosen b sources ps
+chosen_respelled sp false sources ps = refl
+chosen_respelled sp true sources ps = respelled_kept sp false (kept_from false sources ps) ps ∙ chosen_again true sources ps
+
+spaced_no_returns : (style : Style) (st : State) (ss : List (List ℕ)) → HaveNoReturns (spaced_from style st ss)
+spaced_no_returns style st [] = tt
+spaced_no_returns style st (s ∷ ss) = (gap_no_return (gap_before style st s ss), spaced_no_returns style (state_after style st s ss) ss)
 
 -- ---- a text
 
@@ -132,14 +151,30 @@ module _ (style : Style) (text : List ℕ) where
   pub kept_lexemes : lexemes_of kept ≡ lexemes text
   kept_lexemes = chosen_are style.blank_lines (spaced_lexemes text) laid ∙ spaced_are style start_state (lexemes text)
 
+  kept_no_returns_of : HaveNoReturns kept
+  kept_no_returns_of = chosen_no_returns style.blank_lines (spaced_lexemes text) laid (spaced_no_returns style start_state (lexemes text))
+
+  -- spelled out
+  abbrev pub spelling : Spelling
+  spelling = spelling_of style text
+
+  abbrev pub spelled : List Spaced
+  spelled = respelled_all spelling kept
+
+  spelled_gaps : AreGaps spelled
+  spelled_gaps = respelled_gaps spelling kept kept_gaps_of
+
+  spelled_lexemes : lexemes_of spelled ≡ lexemes text
+  spelled_lexemes = respelled_are spelling kept ∙ kept_lexemes
+
   left_is : (b : Bool)
-      → laid_left style start_state (if b then Some (record { blank_lines = text; after_comma = false }) else None) (lexemes text)
-      ≡ put_together (chosen b (spaced_lexemes text) laid)
+      → laid_left style start_state (if b then Some (record { blank_lines = text; after_comma = false }) else None) spelling (lexemes text)
+      ≡ put_together (respelled_all spelling (chosen b (spaced_lexemes text) laid))
   left_is false = refl
   left_is true = refl
 
   -- the code's layout
-  pub laid_is : laid_left style start_state (kept_of style text) (lexemes text) ≡ put_together kept
+  pub laid_is : laid_left style start_state (kept_of style text) spelling (lexemes text) ≡ put_together spelled
   laid_is = left_is style.blank_lines
 
 -- ---- a text that is JSON
@@ -159,17 +194,20 @@ module _ (style : Style) (text : List ℕ) (j : Json) (is : document text ≡ So
       ap (λ (ss : List (List ℕ)). spaced_as (put_together ps ++ last) ss) ((reads ps last gaps gap e).1 ∙ sym e)
       ∙ spaced_together ps last gaps (subst AreBegun (sym e) (lexemes_begun text))
 
-  -- the layout that the style has for it, with a line feed
-  abbrev pub ended : List ℕ
-  ended = put_together (kept style text) ++ 10 ∷ []
+  apart : (ps : List Spaced) → AreGaps ps → lexemes_of ps ≡ lexemes text → spaced_lexemes (put_together ps) ≡ ps
+  apart ps gaps e = ap spaced_lexemes (sym (append-nil (put_together ps))) ∙ gaps_again ps [] gaps tt e
 
-  pub reads_kept : (document ended ≡ Some j) × (lexemes ended ≡ lexemes text)
-  reads_kept = reads (kept style text) (10 ∷ []) (kept_gaps_of style text) (refl, tt) (kept_lexemes style text)
+  -- the layout that the style has for it, with a line end
+  abbrev pub ended : List ℕ
+  ended = spelled_out (spelling style text) (kept style text)
+
+  pub reads_ended : (document ended ≡ Some j) × (lexemes ended ≡ lexemes text)
+  reads_ended =
+      reads (spelled style text) (line_end_bytes (spelling style text).crlf) (spelled_gaps style text) (end_gap (spelling style text).crlf)
+      (spelled_lexemes style text)
 
   laid_again : spaced_lexemes (laid_from style start_state (lexemes text)) ≡ laid style text
-  laid_again =
-      ap spaced_lexemes (sym (append-nil (laid_from style start_state (lexemes text))))
-      ∙ gaps_again (laid style text) [] (spaced_gaps style start_state (lexemes text)) tt (spaced_are style start_state (lexemes text))
+  laid_again = apart (laid style text) (spaced_gaps style start_state (lexemes text)) (spaced_are style start_state (lexemes text))
 
   -- it is the layout without blank lines, with those that are kept
   pub kept_is : with_kept_lines style text (laid_from style start_state (lexemes text)) ≡ put_together (kept style text)
@@ -181,10 +219,22 @@ module _ (style : Style) (text : List ℕ) (j : Json) (is : document text ≡ So
       by false = refl
       by true = ap (λ (ps : List Spaced). put_together (kept_from false (spaced_lexemes text) ps)) laid_again
 
+  -- and spelled out
+  pub spelled_is : with_spelling style text (put_together (kept style text)) ≡ ended
+  spelled_is = ap (spelled_out (spelling style text)) (apart (kept style text) (kept_gaps_of style text) (kept_lexemes style text))
+
   -- laid out again it stays
   pub kept_stays : kept style ended ≡ kept style text
   kept_stays =
-      ap (λ (ss : List (List ℕ)). chosen style.blank_lines (spaced_lexemes ended) (spaced_from style start_state ss)) (reads_kept.1)
+      ap (λ (ss : List (List ℕ)). chosen style.blank_lines (spaced_lexemes ended) (spaced_from style start_state ss)) (reads_ended.1)
       ∙ ap (λ (ps : List Spaced). chosen style.blank_lines ps (laid style text))
-      (gaps_again (kept style text) (10 ∷ []) (kept_gaps_of style text) (refl, tt) (kept_lexemes style text))
-      ∙ chosen_again style.blank_lines (spaced_lexemes text) (laid style text)
+      (gaps_again (spelled style text) (line_end_bytes (spelling style text).crlf) (spelled_gaps style text)
+      (end_gap (spelling style text).crlf) (spelled_lexemes style text))
+      ∙ chosen_respelled (spelling style text) style.blank_lines (spaced_lexemes text) (laid style text)
+
+  -- and is spelled the same
+  pub spelling_stays : spelling style ended ≡ spelling style text
+  spelling_stays =
+      let inline = subst AreInline (sym (kept_lexemes style text)) (lexemes_inline text j is) in
+      let first = first_line_end (spelling style text) (kept style text) inline (kept_no_returns_of style text) in
+      λ i. record { crlf = same_line_end style.line_end text ended first i; tab = (spelling style text).tab }

@@ -1,23 +1,26 @@
 -- A text whose lexemes spell a value is laid out lexeme by lexeme as it is by that value.
-use Rattle.std.proofs.Common.{◌≡◌, refl, sym, ◌∙◌, ap, subst, ℕ, suc, ◌+◌, ◌≤◌, min, Bool, true, false, ◌&&◌, List, [], ◌∷◌, ◌++◌}
+use Rattle.std.proofs.Common.{◌≡◌, refl, sym, ◌∙◌, ap, ℕ, suc, ◌+◌, ◌≤◌, min, Bool, true, false, List, [], ◌∷◌, ◌++◌}
 use Rattle.std.proofs.Common.{append-nil, Some, zero-mul, arith}
 use Rattle.std.specs.Prelude.{if◌then◌else◌}
 use Rattle.json.specs.Json.{Json}
 use Rattle.json_validity.specs.Document.{document, max_depth}
 use Rattle.json_lexemes.specs.Grammar.{Value, alone, array, object, Items, no_items, item, Members, no_members, member}
-use Rattle.json_lexemes.specs.Grammar.{spelled, spelled_items, more_items, spelled_members}
+use Rattle.json_lexemes.specs.Grammar.{spelled, spelled_items, more_items, spelled_members, more_members}
 use Rattle.json_lexemes.specs.Grammar.{SpellValue, depth, items_depth, members_depth, IsFormed, AreFormedItems, AreFormedMembers}
 use Rattle.json_lexemes.specs.Lexemes.{lexemes}
 use Rattle.json_lexemes.proofs.Grammar.{spell_document}
 use Rattle.json_formatter.specs.BlankLines.{layout_of, with_kept_lines}
-use Rattle.json_formatter.specs.ByValue.{are_numbers, filled_lines, item_lines, laid_value}
+use Rattle.json_formatter.specs.ByValue.{filled_lines, flat, flat_items, flat_members, item_lines, items_fill, laid_value}
 use Rattle.json_formatter.specs.Documents.{closes, stops}
+use Rattle.json_formatter.specs.Flat.{flat_line, flat_width}
 use Rattle.json_formatter.specs.Gaps.{indent_at, laid_from, start_state}
+use Rattle.json_formatter.specs.Spelling.{with_spelling}
 use Rattle.json_formatter.specs.declared.gaps.Joint.TheVariants as joint
 use Rattle.json_formatter.specs.declared.style.Style.{Style}
 use Rattle.json_formatter.proofs.ByValue.{laid_by_value}
-use Rattle.json_formatter.proofs.GapsAhead.{items_ahead, items_numbers, members_ahead, members_no_numbers}
-use Rattle.json_formatter.proofs.GapsFilled.{both_hold, numbers_lay}
+use Rattle.json_formatter.proofs.Closing.{all_width, blank, blank_all, brace_columns}
+use Rattle.json_formatter.proofs.GapsAhead.{items_ahead, items_all_fill, members_ahead}
+use Rattle.json_formatter.proofs.GapsFilled.{numbers_lay}
 use Rattle.json_formatter.proofs.GapsFlat.{items_on_line, members_on_line, most}
 use Rattle.json_formatter.proofs.GapsLists.{IsList, curly, list_lays, square}
 use Rattle.json_formatter.proofs.GapsMembers.{FirstLays, MoreItemsLay, MoreMembersLay, ValueLays, closed_items, closed_members}
@@ -43,23 +46,36 @@ something (object ms) more ss h = refl
 
 array_list : (style : Style) (d c : ℕ) (v : Value) (vs : Items) → AreFormedItems (item v vs)
     → d + depth (array (item v vs)) ≤ most → (ss : List (List ℕ))
-    → IsList style d c (are_numbers (item v vs)) (spelled_items (item v vs)) ss
+    → IsList style d c 91 (items_fill style.fill (item v vs)) (spelled_items (item v vs)) (flat style (array (item v vs))) ss
 array_list style d c v vs h l ss =
     record {
-      ahead = items_ahead (item v vs) h;
+      bracket = 1;
+      later = flat_width (flat_items style (item v vs));
+      columns = refl;
+      ahead = items_ahead style (item v vs) h;
+      total = refl;
       begins = something v (more_items vs) ss h.0;
-      numbers = items_numbers (item v vs) h ss;
+      filled = items_all_fill style.fill (item v vs) h ss;
+      tail = flat_line (flat_items style (item v vs));
+      line = refl;
       on_line = items_on_line style d c (item v vs) h (alone_deep d (items_depth (item v vs)) l) ss;
       deep = one_more d (items_depth (item v vs)) l;
     }
 
 object_list : (style : Style) (d c : ℕ) (k : List ℕ) (v : Value) (ms : Members) → AreFormedMembers (member k v ms)
-    → d + depth (object (member k v ms)) ≤ most → (ss : List (List ℕ)) → IsList style d c false (spelled_members (member k v ms)) ss
+    → d + depth (object (member k v ms)) ≤ most → (ss : List (List ℕ))
+    → IsList style d c 123 false (spelled_members (member k v ms)) (flat style (object (member k v ms))) ss
 object_list style d c k v ms h l ss =
     record {
-      ahead = members_ahead (member k v ms) h;
+      bracket = 1 + (blank style + blank style);
+      later = all_width style (member k v ms);
+      columns = brace_columns style k ((58 ∷ []) ∷ ((spelled v ++ more_members ms) ++ ss)) (key_word k h.0).closes;
+      ahead = members_ahead style (member k v ms) h;
+      total = blank_all style k v ms;
       begins = (key_word k h.0).closes;
-      numbers = members_no_numbers k v ms h.0 ss;
+      filled = refl;
+      tail = flat_line (flat_members style (member k v ms));
+      line = refl;
       on_line = members_on_line style d c (member k v ms) h (alone_deep d (members_depth (member k v ms)) l) ss;
       deep = one_more d (members_depth (member k v ms)) l;
     }
@@ -69,16 +85,12 @@ abbrev lines_of : Style → ℕ → Items → Bool → List ℕ
 lines_of style j vs fills = if fills then filled_lines style j vs else item_lines style j vs
 
 array_lines : (style : Style) (v : Value) (vs : Items) (fills : Bool) → AreFormedItems (item v vs)
-    → (style.fill && are_numbers (item v vs)) ≡ fills
+    → items_fill style.fill (item v vs) ≡ fills
     → (d c : ℕ) (ss : List (List ℕ)) → FirstLays style d c (spelled_items (item v vs)) ss (closed_items style d (item v vs))
     → Lays style (outside (d + 1) c fills joint.Line) (spelled_items (item v vs) ++ ss)
     (lines_of style (indent_at style (d + 1)) (item v vs) fills ++ closing_line style d 93) d ss
 array_lines style v vs false h e d c ss lines = lines
-array_lines style v vs true h e d c ss lines = numbers_lay style d ss c v vs h (both_hold style.fill (are_numbers (item v vs)) e).1
-
-no_fill : (a : Bool) → (a && false) ≡ false
-no_fill true = refl
-no_fill false = refl
+array_lines style v vs true h e d c ss lines = numbers_lay style d ss c v vs h e
 
 -- ---- values
 
@@ -86,12 +98,12 @@ array_lays : (style : Style) (v : Value) (vs : Items) → AreFormedItems (item v
     → ValueLays style (array (item v vs))
 array_lays style v vs h one more d c l ss =
     let items = item v vs in
-    let fills = style.fill && are_numbers items in
+    let fills = items_fill style.fill items in
     let own_lines : FirstLays style d c (spelled_items items) ss (closed_items style d items) =
     item_lays v vs h.0 one more c (inside d (items_depth items) l) in
     let bytes : List ℕ = lines_of style (indent_at style (d + 1)) items fills ++ closing_line style d 93 in
     rw (inner_indent style d)
-    (list_lays 91 (spelled_items items) ss square (array_list style d c v vs h l ss) bytes
+    (list_lays 91 (spelled_items items) (flat style (array items)) ss square (array_list style d c v vs h l ss) bytes
     (array_lines style v vs fills h refl d c ss own_lines))
 
 object_lays : (style : Style) (k : List ℕ) (v : Value) (ms : Members) → AreFormedMembers (member k v ms)
@@ -102,9 +114,8 @@ object_lays style k v ms h one more d c l ss =
     let own_lines : FirstLays style d c (spelled_members members) ss bytes =
     member_lays k v ms h.0 h.1 one more c (inside d (members_depth members) l) in
     rw (inner_indent style d)
-    (list_lays 123 (spelled_members members) ss curly (object_list style d c k v ms h l ss) bytes
-    (subst (λ (fills : Bool). Lays style (outside (d + 1) c fills joint.Line) (spelled_members members ++ ss) bytes d ss)
-    (sym (no_fill style.fill)) own_lines))
+    (list_lays 123 (spelled_members members) (flat style (object members)) ss curly (object_list style d c k v ms h l ss) bytes
+    own_lines)
 
 mutual
   value_lays : (style : Style) (v : Value) → IsFormed v → ValueLays style v
@@ -145,15 +156,15 @@ gaps_by_value style v h l =
     ∙ append-nil (laid_value style (indent_at style 0) 0 0 v)
     ∙ ap (λ (i : ℕ). laid_value style i 0 0 v) (no_indent style)
 
--- the layout of a text whose lexemes spell a value: its lexemes, each after its gap, with the blank lines that are kept, and a line feed
+-- the layout of a text whose lexemes spell a value: its lexemes, each after its gap, with the blank lines that are kept, spelled out
 pub layout_by_gaps : (style : Style) (text : List ℕ) → SpellValue (lexemes text)
-    → layout_of style text ≡ with_kept_lines style text (laid_from style start_state (lexemes text)) ++ 10 ∷ []
+    → layout_of style text ≡ with_spelling style text (with_kept_lines style text (laid_from style start_state (lexemes text)))
 layout_by_gaps style text h =
     let laid = ap (laid_from style start_state) h.spells ∙ gaps_by_value style h.value h.formed h.shallow in
     laid_by_value style text h.value h.spells h.shallow h.formed
-    ∙ ap (λ (bs : List ℕ). with_kept_lines style text bs ++ 10 ∷ []) (sym laid)
+    ∙ ap (λ (bs : List ℕ). with_spelling style text (with_kept_lines style text bs)) (sym laid)
 
 -- the lexemes of each text that is JSON spell one
 pub json_by_gaps : (style : Style) (text : List ℕ) (j : Json) → document text ≡ Some j
-    → layout_of style text ≡ with_kept_lines style text (laid_from style start_state (lexemes text)) ++ 10 ∷ []
+    → layout_of style text ≡ with_spelling style text (with_kept_lines style text (laid_from style start_state (lexemes text)))
 json_by_gaps style text j is = layout_by_gaps style text (spell_document text j is)

@@ -86,11 +86,8 @@ item_lays {style} {d} {ss} v vs h one more c l =
 
 -- ---- members
 
-key_columns : (w j : ℕ) → saturating_add (saturating_add (saturating_add j w) 1) 1 ≡ saturating_add j (((w + 0) + 2) + 0)
-key_columns w j = omega arith
-
-key_end : (k : List ℕ) (j : ℕ) → IsWord k → saturating_add (saturating_add (saturating_add j (text_width k)) 1) 1 ≡ after_key j k
-key_end k j w = rw (w.comma, w.colon) (key_columns (text_width k) j)
+key_end : (k : List ℕ) (j : ℕ) → saturating_add (saturating_add (saturating_add j (text_width k)) 1) 1 ≡ after_key j k
+key_end k j = omega arith
 
 -- a key, its colon and a space
 abbrev key_bytes : List ℕ → List ℕ
@@ -101,7 +98,7 @@ key_next : (style : Style) (d j : ℕ) (k : List ℕ) (ss : List (List ℕ)) →
 key_next style d j k ss w b =
     let x = saturating_add (saturating_add j (text_width k)) 1 in
     let value = laid_from style (rested d (after_key j k)) ss in
-    let spaced = space_first style d x false ss b ∙ ap (λ (c : ℕ). 32 ∷ laid_from style (rested d c) ss) (key_end k j w) in
+    let spaced = space_first style d x false ss b ∙ ap (λ (c : ℕ). 32 ∷ laid_from style (rested d c) ss) (key_end k j) in
     word_next style d j false k ((58 ∷ []) ∷ ss) w
     ∙ ap (λ (l : List ℕ). k ++ (58 ∷ l)) spaced
     ∙ sym (append_assoc k (58 ∷ 32 ∷ []) value)

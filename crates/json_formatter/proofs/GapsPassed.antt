@@ -22,7 +22,7 @@ one_stepped : {A : Type 0} (step : List ℕ → A → A) (s : List ℕ) (ss : Li
 unfolding steps
 one_stepped step s ss a = refl
 
-both_stepped : {A : Type 0} (step : List ℕ → A → A) (xs ys : List (List ℕ)) (a : A)
+pub both_stepped : {A : Type 0} (step : List ℕ → A → A) (xs ys : List (List ℕ)) (a : A)
     → steps step xs (steps step ys a) ≡ steps step (xs ++ ys) a
 unfolding steps
 both_stepped step [] ys a = refl

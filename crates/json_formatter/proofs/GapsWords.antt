@@ -2,7 +2,7 @@
 use Rattle.std.proofs.Common.{◌≡◌, refl, ℕ, Bool, true, false, ◌||◌, List, ◌∷◌, ◌++◌}
 use Rattle.json.specs.Word.{head, ends_word}
 use Rattle.json_lexemes.specs.Grammar.{Value, alone, array, object, spelled, spelled_items, spelled_members, IsFormed}
-use Rattle.json_formatter.specs.Documents.{closes, is_number, is_json_sign, opens}
+use Rattle.json_formatter.specs.Documents.{closes, is_json_sign, opens}
 use Rattle.json_formatter.proofs.ValueTrees.{formed_plain, key_formed}
 
 -- a lexeme that is no sign
@@ -11,6 +11,7 @@ pub record IsWord (s : List ℕ) : Type 0 where
   pub closes : closes s ≡ false
   pub comma : is_json_sign 44 s ≡ false
   pub colon : is_json_sign 58 s ≡ false
+  pub brace : is_json_sign 123 s ≡ false
 
 neither : (x y : Bool) → (x || y) ≡ false → (x ≡ false) × (y ≡ false)
 neither false y e = (refl, e)
@@ -20,13 +21,10 @@ pub word_formed : (s : List ℕ) → ends_word s ≡ false → IsWord s
 word_formed s e =
     let plain = formed_plain s e in
     let mark = neither (is_json_sign 44 s) (is_json_sign 58 s) plain.mark in
-    record { opens = plain.opens; closes = plain.closes; comma = mark.0; colon = mark.1 }
+    record { opens = plain.opens; closes = plain.closes; comma = mark.0; colon = mark.1; brace = plain.brace }
 
 pub key_word : (k : List ℕ) → head k ≡ 34 → IsWord k
 key_word k e = word_formed k (key_formed k e)
-
-pub key_no_number : (k : List ℕ) → head k ≡ 34 → is_number k ≡ false
-key_no_number k e = rw e refl
 
 -- a value or a key begins
 pub record BeginsPlainly (ss : List (List ℕ)) : Type 0 where

@@ -1,6 +1,6 @@
 -- Lists are laid out as their flat lines, or as their members between brackets, each in a line of its own.
-use Rattle.std.proofs.Common.{◌≡◌, refl, sym, ◌∙◌, ap, subst, ℕ, suc, ◌+◌, ◌≤◌, Bool, false, List, [], ◌∷◌, ◌++◌, length, append_assoc}
-use Rattle.std.proofs.Common.{append-nil, arith}
+use Rattle.std.proofs.Common.{◌≡◌, refl, sym, ◌∙◌, ap, subst, ℕ, suc, ◌+◌, ◌≤◌, Bool, true, false, List, [], ◌∷◌, ◌++◌, length}
+use Rattle.std.proofs.Common.{append_assoc, append-nil, arith}
 use Rattle.std.specs.Prelude.{if◌then◌else◌, pos}
 use Rattle.json.specs.Word.{ends_word}
 use Rattle.json_lexemes.specs.Grammar.{Items, no_items, item, Members, no_members}
@@ -13,18 +13,17 @@ use Rattle.prettyless_model.specs.Layout.{State, Entry, Breaks, breaks, entry, l
 use Rattle.prettyless_model.specs.Options.{options_at}
 use Rattle.prettyless.specs.Built.{IsNotNil, append, nest}
 use Rattle.prettyless.specs.Counted.{text}
-use Rattle.prettyless.specs.Lines.{line, line_, space}
+use Rattle.prettyless.specs.Lines.{line, space}
 use Rattle.prettyless.specs.Tree.{Tree, Nil, Text, Append, Group, HardLine, BreakOrFlat}
 use Rattle.json_formatter.specs.declared.style.Style.{Style}
 use Rattle.json_formatter.specs.ByValue.{fits_width, after_key, item_comma, member_comma, inner, new_line}
-use Rattle.json_formatter.specs.Documents.{listed}
+use Rattle.json_formatter.specs.Documents.{margin, gap_in, listed}
 use Rattle.json_formatter.specs.Flat.{flat_line, flat_width}
-use Rattle.json_formatter.proofs.Chains.{append_is, chain, gap_in, within, AreSome, listed_is, listed_none, text_some, key_some}
-use Rattle.json_formatter.proofs.FlatTrees.{width_of}
+use Rattle.json_formatter.proofs.Chains.{append_is, chain, within, AreSome, listed_is, text_some, key_some}
 use Rattle.json_formatter.proofs.LaidParts.{At, Rested, in_break, Writes, Follows, greatest, then_writes, writes_same, writes_rested}
 use Rattle.json_formatter.proofs.LaidParts.{text_writes, line_writes, nest_writes, end_follows, comma_follows, sum_within, lexeme_writes}
 use Rattle.json_formatter.proofs.LaidParts.{group_writes, IsFlat, StandsAt}
-use Rattle.json_formatter.proofs.ValueTrees.{item_marked, member_marked, key_tree, formed_plain}
+use Rattle.json_formatter.proofs.ValueTrees.{item_marked, member_marked, key_tree}
 
 -- ---- lines
 
@@ -66,30 +65,39 @@ comma_marks {style} {j = j} t some h = record {
       (λ u r. writes_rested (text_writes (options_at style.width) 1 u.column.position 44 [] u (r, refl))));
 }
 
--- brackets around lines
-pub brackets_around : {style : Style} {n a : ℕ} {items : Tree} {s : List ℕ} {st : State} (i z : ℕ) → i ≤ greatest → Rested st
+-- brackets around lines, which have this inside them where they are flat
+pub brackets_around : {style : Style} {n a : ℕ} {items : Tree} {s : List ℕ} {st : State} (f : Tree) (i z : ℕ) → i ≤ greatest → Rested st
     → LaysAtIndent style n items (inner style i) s → (rest : List Entry)
-    → Writes (in_break style n (within (Text (a ∷ [])) items (Text (z ∷ [])) style.indent) i rest st)
+    → Writes (in_break style n (within (BreakOrFlat HardLine f) (Text (a ∷ [])) items (Text (z ∷ [])) style.indent) i rest st)
     (a ∷ ((new_line (inner style i) ++ s) ++ (new_line i ++ z ∷ []))) Rested
 unfolding lay
-brackets_around {style} {n} {a} {items} {s} {st} i z l h k = λ rest.
+brackets_around {style} {n} {a} {items} {s} {st} f i z l h k = λ rest.
+    let inside = BreakOrFlat HardLine f in
     let o = options_at style.width in
     let brk = breaks o (suc n) in
     let j = inner style i in
     let close = Text (z ∷ []) in
-    let lines = nest (pos style.indent) (Append line_ items) in
+    let lines = nest (pos style.indent) (Append inside items) in
     let further : (u : State) → Rested u
-    → Writes (in_break style n lines i (entry i line_ ∷ entry i close ∷ rest) u) (new_line j ++ s) Rested =
-    λ u r. nest_writes o brk style.indent i line_ items (entry i line_ ∷ entry i close ∷ rest) u (new_line j ++ s) l
+    → Writes (in_break style n lines i (entry i inside ∷ entry i close ∷ rest) u) (new_line j ++ s) Rested =
+    λ u r. nest_writes o brk style.indent i inside items (entry i inside ∷ entry i close ∷ rest) u (new_line j ++ s) l
     (then_writes
-    (line_writes style n j j Nil items (entry i line_ ∷ entry i close ∷ rest) u r (sum_within i style.indent))
-    (λ v q. (k v q).written (entry i line_ ∷ entry i close ∷ rest) (line_next style.width i Nil (entry i close ∷ rest)))) in
+    (line_writes style n j j f items (entry i inside ∷ entry i close ∷ rest) u r (sum_within i style.indent))
+    (λ v q. (k v q).written (entry i inside ∷ entry i close ∷ rest) (line_next style.width i f (entry i close ∷ rest)))) in
     let front =
     then_writes
     (text_writes o 1 st.column.position a [] st (h, refl))
-    (λ u r. then_writes (further u r.0) (λ v q. line_writes style n i i Nil close rest v q l)) in
+    (λ u r. then_writes (further u r.0) (λ v q. line_writes style n i i f close rest v q l)) in
     writes_same refl (ap (λ (bs : List ℕ). a ∷ bs) (sym (append_assoc (new_line j ++ s) (new_line i) (z ∷ []))))
     (then_writes front (λ u r. writes_rested (text_writes o 1 u.column.position z [] u (r.0, refl))))
+
+-- the same where the gap inside them is that of a list
+edges_around : {style : Style} {n a : ℕ} {items : Tree} {s : List ℕ} {st : State} (blanks : Bool) (i z : ℕ) → i ≤ greatest → Rested st
+    → LaysAtIndent style n items (inner style i) s → (rest : List Entry)
+    → Writes (in_break style n (within (margin blanks) (Text (a ∷ [])) items (Text (z ∷ [])) style.indent) i rest st)
+    (a ∷ ((new_line (inner style i) ++ s) ++ (new_line i ++ z ∷ []))) Rested
+edges_around true i z l h k = brackets_around space i z l h k
+edges_around false i z l h k = brackets_around Nil i z l h k
 
 -- ---- items
 
@@ -142,34 +150,35 @@ first_and_later {t = t} {b = b} s one later is = record { bytes = b ++ s; is = i
 
 -- a list is its flat line where that fits, and else these lines between its brackets
 pub list_lays : {style : Style} {n c k a : ℕ} {fills : Bool} {t : Tree} {xs : List Tree} {bs lines : List ℕ} {rest : List Entry}
-    {st : State} (i z : ℕ) (ss : List (List ℕ))
-    → AreSome (t ∷ xs) → IsFlat (listed fills (Text (a ∷ [])) (t ∷ xs) (Text (z ∷ [])) (pos style.indent)) (flat_line ss) (flat_width ss)
+    {st : State} (blanks : Bool) (i z : ℕ) (ss : List (List ℕ))
+    → AreSome (t ∷ xs)
+    → IsFlat (listed blanks fills (Text (a ∷ [])) (t ∷ xs) (Text (z ∷ [])) (pos style.indent)) (flat_line ss) (flat_width ss)
     → flat_line ss ≡ a ∷ bs
     → i ≤ greatest → StandsAt style.width c k rest st → LaysLines style n (inner style i) fills t xs lines
-    → Writes (in_break style n (listed fills (Text (a ∷ [])) (t ∷ xs) (Text (z ∷ [])) (pos style.indent)) i rest st)
+    → Writes (in_break style n (listed blanks fills (Text (a ∷ [])) (t ∷ xs) (Text (z ∷ [])) (pos style.indent)) i rest st)
     (if fits_width style c k ss then flat_line ss else a ∷ (lines ++ (new_line i ++ z ∷ []))) Rested
-list_lays {style} {n} {c} {k} {a} {fills} {t} {xs} {bs} {lines} {rest} {st} i z ss some flat begins l place inside =
-    let is = listed_is fills a z style.indent t xs some.0 some.1 in
+list_lays {style} {n} {c} {k} {a} {fills} {t} {xs} {bs} {lines} {rest} {st} blanks i z ss some flat begins l place inside =
+    let is = listed_is blanks fills a z style.indent t xs some.0 some.1 in
     let items = chain (gap_in fills) t xs in
-    let grouped : IsFlat (Group (within (Text (a ∷ [])) items (Text (z ∷ [])) style.indent)) (flat_line ss) (flat_width ss) =
+    let inner_lines = within (margin blanks) (Text (a ∷ [])) items (Text (z ∷ [])) style.indent in
+    let grouped : IsFlat (Group inner_lines) (flat_line ss) (flat_width ss) =
     subst (λ (d : Tree). IsFlat d (flat_line ss) (flat_width ss)) is flat in
-    let plain : IsFlat (within (Text (a ∷ [])) items (Text (z ∷ [])) style.indent) (flat_line ss) (flat_width ss) =
+    let plain : IsFlat inner_lines (flat_line ss) (flat_width ss) =
     record { inline = grouped.inline; bytes = grouped.bytes; columns = grouped.columns } in
-    let broken = brackets_around i z l place.at.0 inside.lays rest in
+    let broken = edges_around blanks i z l place.at.0 inside.lays rest in
     writes_same
     (ap (λ (d : Tree). in_break style n d i rest st) is)
     (ap (λ (x : List ℕ). if fits_width style c k ss then flat_line ss else a ∷ (x ++ (new_line i ++ z ∷ []))) (sym inside.is))
     (group_writes style n i ss plain begins place broken)
 
 -- two brackets
-pub empty_lays : (style : Style) (n i : ℕ) (fills : Bool) (a z : ℕ) (rest : List Entry) (st : State) → Rested st
-    → Writes (in_break style n (listed fills (Text (a ∷ [])) [] (Text (z ∷ [])) (pos style.indent)) i rest st) (a ∷ z ∷ []) Rested
+pub empty_lays : (style : Style) (n i : ℕ) (blanks fills : Bool) (a z : ℕ) (rest : List Entry) (st : State) → Rested st
+    → Writes (in_break style n (listed blanks fills (Text (a ∷ [])) [] (Text (z ∷ [])) (pos style.indent)) i rest st) (a ∷ z ∷ []) Rested
 unfolding lay
-empty_lays style n i fills a z rest st h =
-    rw (listed_none fills a z style.indent)
-    (then_writes
+empty_lays style n i blanks fills a z rest st h =
+    then_writes
     (text_writes (options_at style.width) 1 st.column.position a [] st (h, refl))
-    (λ u r. writes_rested (text_writes (options_at style.width) 1 u.column.position z [] u (r.0, refl))))
+    (λ u r. writes_rested (text_writes (options_at style.width) 1 u.column.position z [] u (r.0, refl)))
 
 -- ---- words
 
@@ -185,7 +194,7 @@ pub key_lays : (o : RenderOptions) (brk : Breaks) (k : List ℕ) (i c : ℕ) (re
 unfolding lay
 key_lays o brk k i c rest st e h =
     let w = text_width k in
-    let width : flat_width (k ∷ (58 ∷ []) ∷ []) ≡ w + 2 = width_of k ((58 ∷ []) ∷ []) (formed_plain k e).mark in
+    let width : flat_width (k ∷ (58 ∷ []) ∷ (32 ∷ []) ∷ []) ≡ w + 2 = refl in
     let same : saturating_add (saturating_add (saturating_add c w) 1) 1 ≡ after_key c k = omega (arith, width) in
     let is : key_tree k ≡ Append (Append (text k) (Text (58 ∷ []))) space =
     ap (λ (t : Tree). append t space) (append_is (text k) (Text (58 ∷ [])) (text_some k e) tt) in

@@ -1,20 +1,18 @@
 -- Values are laid out as the definition by values says.
-use Rattle.std.proofs.Common.{◌≡◌, refl, sym, ◌∙◌, ap, subst, ℕ, ◌≤◌, Bool, true, false, ◌&&◌, List, ◌∷◌, ◌++◌, length, append_assoc}
+use Rattle.std.proofs.Common.{◌≡◌, refl, ◌∙◌, ap, subst, ℕ, ◌≤◌, Bool, true, false, not, List, ◌∷◌, ◌++◌, length, append_assoc}
 use Rattle.std.specs.Prelude.{if◌then◌else◌}
-use Rattle.std.proofs.Math.Bool.{and-false}
-use Rattle.std.proofs.lemmas.Bool.{and_parts}
 use Rattle.json.specs.Word.{ends_word}
 use Rattle.json_lexemes.specs.Grammar.{Value, alone, array, object, Items, no_items, item, Members, no_members}
 use Rattle.json_lexemes.specs.Grammar as g
-use Rattle.json_lexemes.specs.Grammar.{spelled, IsFormed, AreFormedItems, AreFormedMembers}
+use Rattle.json_lexemes.specs.Grammar.{IsFormed, AreFormedItems, AreFormedMembers}
 use Rattle.prettyless_model.specs.Layout.{State, Entry}
 use Rattle.prettyless.specs.Built.{append}
 use Rattle.json_formatter.specs.declared.style.Style.{Style}
-use Rattle.json_formatter.specs.ByValue.{laid_value, are_numbers, after_key, filled_lines, item_lines, member_lines, item_comma}
+use Rattle.json_formatter.specs.ByValue.{laid_value, items_fill, after_key, flat, filled_lines, item_lines, member_lines, item_comma}
 use Rattle.json_formatter.specs.ByValue.{member_comma, inner, new_line}
 use Rattle.json_formatter.proofs.Chains.{append_some, value_some, items_some, members_some, key_some}
 use Rattle.json_formatter.proofs.FlatTrees.{value_flat}
-use Rattle.json_formatter.proofs.Filled.{filled_numbers}
+use Rattle.json_formatter.proofs.Filled.{filled_items}
 use Rattle.json_formatter.proofs.LaidLists.{LaysAtIndent, LaysAfter, LaysLines, lays_none, lays_more, first_and_later, list_lays}
 use Rattle.json_formatter.proofs.LaidLists.{empty_lays, word_lays, pair_lays, marked_lays, member_marked_lays}
 use Rattle.json_formatter.proofs.LaidParts.{Rested, StandsAt, in_break, Writes, greatest, writes_rested, sum_within}
@@ -23,13 +21,13 @@ use Rattle.json_formatter.proofs.ValueTrees.{tree, item_trees, member_trees, ite
 -- ---- items and members
 
 -- items in lines of their own, or in lines that are filled
-array_lines : (style : Style) (n j : ℕ) (fills : Bool) (v : Value) (vs : Items) → (style.fill && are_numbers (item v vs)) ≡ fills
+array_lines : (style : Style) (n j : ℕ) (fills : Bool) (v : Value) (vs : Items) → items_fill style.fill (item v vs) ≡ fills
     → j ≤ greatest → AreFormedItems (item v vs)
     → LaysLines style n j false (item_marked (tree style v) vs) (item_trees style vs) (item_lines style j (item v vs))
     → LaysLines style n j fills (item_marked (tree style v) vs) (item_trees style vs)
     (if fills then filled_lines style j (item v vs) else item_lines style j (item v vs))
 array_lines style n j false v vs e l h lines = lines
-array_lines style n j true v vs e l h lines = filled_numbers style n j v vs l (and_parts style.fill (are_numbers (item v vs)) e).1 h
+array_lines style n j true v vs e l h lines = filled_items style n j v vs l e h
 
 -- the lines of one more item, and of one more member
 item_bytes : (style : Style) (j : ℕ) (v : Value) (vs : Items)
@@ -76,26 +74,25 @@ one_member {style} {n} {j} key v ms l e h value = λ u r.
 mutual
   pub value_lays : (style : Style) (n : ℕ) (v : Value) → IsFormed v → ValueLays style n v
   value_lays style n (alone s) h = λ i c k rest st l place. writes_rested (word_lays _ _ s i c rest st h place.at)
-  value_lays style n (array no_items) h = λ i c k rest st l place. empty_lays style n i (style.fill && true) 91 93 rest st place.at.0
+  value_lays style n (array no_items) h = λ i c k rest st l place. empty_lays style n i false true 91 93 rest st place.at.0
   value_lays style n (array (item v vs)) h = λ i c k rest st l place.
       let j = inner style i in
       let m = sum_within i style.indent in
-      let fills = style.fill && are_numbers (item v vs) in
-      list_lays i 93 (spelled (array (item v vs))) (items_some style (item v vs) h) (value_flat style (array (item v vs)) h) refl l place
+      let fills = items_fill style.fill (item v vs) in
+      list_lays false i 93 (flat style (array (item v vs))) (items_some style (item v vs) h)
+      (value_flat style (array (item v vs)) h) refl l place
       (array_lines style n j fills v vs refl m h
       (first_and_later (item_lines style j vs) (one_item v vs m h.0 (value_lays style n v h.0))
       (items_lay style n vs h.1 j m) (item_bytes style j v vs)))
-  value_lays style n (object no_members) h = λ i c k rest st l place. empty_lays style n i (style.fill && true) 123 125 rest st place.at.0
+  value_lays style n (object no_members) h = λ i c k rest st l place.
+      empty_lays style n i (not style.compact) false 123 125 rest st place.at.0
   value_lays style n (object (g.member key v ms)) h = λ i c k rest st l place.
       let j = inner style i in
       let m = sum_within i style.indent in
-      let t = member_marked (append (key_tree key) (tree style v)) ms in
-      list_lays i 125 (spelled (object (g.member key v ms))) (members_some style (g.member key v ms) h)
+      list_lays (not style.compact) i 125 (flat style (object (g.member key v ms))) (members_some style (g.member key v ms) h)
       (value_flat style (object (g.member key v ms)) h) refl l place
-      (subst (λ (fills : Bool). LaysLines style n j fills t (member_trees style ms) (member_lines style j (g.member key v ms)))
-      (sym (and-false style.fill))
       (first_and_later (member_lines style j ms) (one_member key v ms m (key_formed key h.0) h.1 (value_lays style n v h.1))
-      (members_lay style n ms h.2 j m) (member_bytes style j key v ms)))
+      (members_lay style n ms h.2 j m) (member_bytes style j key v ms))
 
   items_lay : (style : Style) (n : ℕ) (vs : Items) → AreFormedItems vs → (j : ℕ) → j ≤ greatest
       → LaysAfter style n (item_trees style vs) j (item_lines style j vs)

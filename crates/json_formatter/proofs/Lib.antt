@@ -1,3 +1,4 @@
+pub mod BlankRuns
 pub mod ByValue
 pub mod Chains
 pub mod Closing
@@ -20,6 +21,7 @@ pub mod Layouts
 pub mod Lines
 pub mod Outputs
 pub mod ReadOn
+pub mod Respelled
 pub mod Readers
 pub mod Shrinking
 pub mod Sinks

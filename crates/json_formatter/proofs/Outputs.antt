@@ -1,13 +1,12 @@
 -- Texts on their way to a writer, one after another.
-use Rattle.std.proofs.Common.{◌≡◌, refl, sym, ◌∙◌, ap, subst, ℕ, ◌+◌, ◌-◌, ◌≤◌, List, [], ◌++◌, append_assoc, append-nil}
+use Rattle.std.proofs.Common.{◌≡◌, sym, ◌∙◌, ap, subst, ℕ, ◌+◌, ◌-◌, ◌≤◌, List, [], ◌++◌, append_assoc, append-nil}
 use Rattle.std.proofs.Common.{length, length-append, arith}
-use Rattle.std.specs.Prelude.{Option, Some, None, Result, Ok, Err, OnErr}
+use Rattle.std.specs.Prelude.{Option, Some, None, Result, Ok, Err, OnErr, replicate}
 use Rattle.std.specs.Io.KnownBytes.{Appends}
 use Rattle.std.proofs.KnownBytes.{Appends-trans}
-use Rattle.std.proofs.lemmas.List.{replicate-append-replicate}
-use Rattle.prettyless_model.specs.Spaces.{spaces}
 use Rattle.prettyless_sink.specs.Sink.{AppendsProperBeginning}
 use Rattle.json_formatter.specs.Outputs.{WritesHeld, WriterFailed}
+use Rattle.json_formatter.proofs.BlankRuns.{run_left, run_more}
 
 -- what is so after an error
 pub on_err : {A E : Type 0} {P : Type 0} (r : Result A E) → P → OnErr r P
@@ -123,30 +122,21 @@ sent_stops {held} {x} a b c e f h k = record {
   appends = Appends-trans a b c x k.0 h k.4;
 }
 
--- ---- spaces
-
--- spaces in two runs
-two_runs : (n i k : ℕ) → n ≡ i + k → spaces i ++ spaces k ≡ spaces n
-two_runs n i k e = replicate-append-replicate {A = ℕ} i k 32 ∙ ap spaces (sym e)
+-- ---- blanks
 
 -- a piece more
-pub spaces_hand : {a b c : Option (List ℕ)} (held mid left piece : List ℕ) (n i k : ℕ) → n ≡ i + k → piece ≡ spaces k →
-    WritesHeld a b held mid (spaces i)
-    → WritesHeld b c mid left piece → WritesHeld a c held left (spaces n)
-spaces_hand held mid left piece n i k sum e h m =
-    hands_same held left (spaces i ++ piece) (spaces n) (ap (λ (l : List ℕ). spaces i ++ l) e ∙ two_runs n i k sum)
-    (hands_both held mid left (spaces i) piece h m)
+pub blanks_hand : {a b c : Option (List ℕ)} (x : ℕ) (held mid left piece : List ℕ) (n i k : ℕ) → n ≡ i + k → piece ≡ replicate k x
+    → WritesHeld a b held mid (replicate i x) → WritesHeld b c mid left piece → WritesHeld a c held left (replicate n x)
+blanks_hand x held mid left piece n i k sum e h m =
+    hands_same held left (replicate i x ++ piece) (replicate n x) (run_more x piece n i k sum e)
+    (hands_both held mid left (replicate i x) piece h m)
 
 -- the writer fails in a piece
-pub spaces_stop : {a b c : Option (List ℕ)} (held mid piece : List ℕ) (n i k : ℕ) → i + k ≤ n → piece ≡ spaces k →
-    WritesHeld a b held mid (spaces i)
-    → WriterFailed b c mid piece → WriterFailed a c held (spaces n)
-spaces_stop held mid piece n i k le e h m =
-    let rest = n - (i + k) in
-    stops_same held ((spaces i ++ piece) ++ spaces rest) (spaces n)
-    (ap (λ (l : List ℕ). l ++ spaces rest) (ap (λ (l : List ℕ). spaces i ++ l) e ∙ two_runs (i + k) i k refl)
-    ∙ two_runs n (i + k) rest (omega arith))
-    (stops_before held (spaces i ++ piece) (spaces rest) (hands_stops held mid (spaces i) piece h m))
+pub blanks_stop : {a b c : Option (List ℕ)} (x : ℕ) (held mid piece : List ℕ) (n i k : ℕ) → i + k ≤ n → piece ≡ replicate k x
+    → WritesHeld a b held mid (replicate i x) → WriterFailed b c mid piece → WriterFailed a c held (replicate n x)
+blanks_stop x held mid piece n i k le e h m =
+    stops_same held ((replicate i x ++ piece) ++ replicate (n - (i + k)) x) (replicate n x) (run_left x piece n i k le e)
+    (stops_before held (replicate i x ++ piece) (replicate (n - (i + k)) x) (hands_stops held mid (replicate i x) piece h m))
 
 -- ---- a layout
 
@@ -175,12 +165,11 @@ out_hands a b c held mid left x y none h m = hands_both [] mid left x y (subst (
 
 -- ---- a text that is kept
 
--- a piece of spaces more
-pub spaces_more : (old mid new piece : List ℕ) (n i k : ℕ) → n ≡ i + k → piece ≡ spaces k → mid ≡ old ++ spaces i → new ≡ mid ++ piece
-    → new ≡ old ++ spaces n
-spaces_more old mid new piece n i k sum e before after =
+-- a piece of blanks more
+pub blanks_more : (x : ℕ) (old mid new piece : List ℕ) (n i k : ℕ) → n ≡ i + k → piece ≡ replicate k x → mid ≡ old ++ replicate i x
+    → new ≡ mid ++ piece → new ≡ old ++ replicate n x
+blanks_more x old mid new piece n i k sum e before after =
     after
-    ∙ ap (λ (l : List ℕ). mid ++ l) e
-    ∙ ap (λ (l : List ℕ). l ++ spaces k) before
-    ∙ append_assoc old (spaces i) (spaces k)
-    ∙ ap (λ (l : List ℕ). old ++ l) (two_runs n i k sum)
+    ∙ ap (λ (l : List ℕ). l ++ piece) before
+    ∙ append_assoc old (replicate i x) piece
+    ∙ ap (λ (l : List ℕ). old ++ l) (run_more x piece n i k sum e)

@@ -38,8 +38,8 @@ with_value_keeps value keeps key ss = by (cases_Bool (next_is (is_json_sign asci
     by (inl e) = let h = keeps (drop 1 ss) in rw e (omega (arith, h, length-drop 1 ss))
     by (inr e) = rw e (omega arith)
 
-pub list_member_shrinks : (value : Reader Tree) → Shrinks value → Keeps value → Shrinks (list_member value)
-list_member_shrinks value shrinks keeps s ss =
+pub list_member_shrinks : (style : Style) (value : Reader Tree) → Shrinks value → Keeps value → Shrinks (list_member style value)
+list_member_shrinks style value shrinks keeps s ss =
     let first = value (s ∷ ss) in
     let pair = with_value value first.found first.left in
     let a = shrinks s ss in
@@ -52,8 +52,8 @@ list_shrinks style value shrinks keeps s ss = by (cases_Bool (opens s))
   where
     by : (opens s ≡ true) ⊎ (opens s ≡ false) → length (list_or_lexeme style value (s ∷ ss)).left ≤ length ss
     by (inl e) =
-        let a = many_shrinks closes (list_member value) (list_member_shrinks value shrinks keeps) (length ss) ss in
-        let b = alone_keeps (list_members value ss).left in
+        let a = many_shrinks closes (list_member style value) (list_member_shrinks style value shrinks keeps) (length ss) ss in
+        let b = alone_keeps (list_members style value ss).left in
         rw e (omega (arith, a, b))
     by (inr e) = rw e (omega arith)
 

@@ -1,6 +1,5 @@
 -- A layout on its way into a sink, piece by piece.
 use Rattle.std.proofs.Common.{◌≡◌, sym, ◌∙◌, ap, subst, ℕ, List, [], ◌++◌, append_assoc, append-nil, Option}
-use Rattle.prettyless_model.specs.Spaces.{spaces}
 use Rattle.prettyless_sink.specs.Sink.{Accepts, Refuses}
 use Rattle.prettyless_sink.proofs.Beginnings.{accepted_both, beginning_of_more, refused_after}
 
@@ -19,10 +18,11 @@ refuses_more old new x y n m failed = λ is_known.
 
 -- ---- a lexeme
 
--- the line ends of a gap, its spaces, and a text
-pub gap_text : (gap ends text : List ℕ) (indent : ℕ) → gap ≡ ends ++ spaces indent
-    → (spaces 0 ++ ends) ++ (spaces indent ++ text) ≡ gap ++ text
-gap_text gap ends text indent e = sym (append_assoc ends (spaces indent) text) ∙ ap (λ (l : List ℕ). l ++ text) (sym e)
+-- the line ends of a gap, its tabs, its spaces, and a text
+pub gap_text : (gap ends tabbed spaced text : List ℕ) → gap ≡ ends ++ (tabbed ++ spaced)
+    → (ends ++ tabbed) ++ (spaced ++ text) ≡ gap ++ text
+gap_text gap ends tabbed spaced text e =
+    sym (append_assoc (ends ++ tabbed) spaced text) ∙ ap (λ (l : List ℕ). l ++ text) (append_assoc ends tabbed spaced ∙ sym e)
 
 -- the gap and the lexeme that come next, and what is left after them
 pub lexeme_next : {left spelled : List ℕ} (gap text rest : List ℕ) → left ≡ gap ++ (spelled ++ rest) → text ≡ spelled

@@ -1,8 +1,7 @@
 -- The document of a value, by recursion on the value: it is what is read of the lexemes that spell it.
-use Rattle.std.proofs.Common.{◌≡◌, refl, sym, ◌∙◌, ap, ℕ, zero, suc, ◌≤◌, max, Bool, true, false, ◌&&◌, ◌||◌, ◌==◌, List, [], ◌∷◌, ◌++◌}
-use Rattle.std.proofs.Common.{append_assoc, arith}
+use Rattle.std.proofs.Common.{◌≡◌, refl, sym, ◌∙◌, ap, ℕ, zero, suc, ◌≤◌, max, Bool, true, false, not, ◌&&◌, ◌||◌, ◌==◌, List, []}
+use Rattle.std.proofs.Common.{◌∷◌, ◌++◌, append_assoc, arith}
 use Rattle.std.specs.Prelude.{pos}
-use Rattle.std.specs.Char.{is_ascii_digit}
 use Rattle.std.proofs.lemmas.Bool.{or_parts}
 use Rattle.json.specs.Ascii as ascii
 use Rattle.json.specs.Word.{is_operator, is_space, head, ends_word}
@@ -15,10 +14,13 @@ use Rattle.prettyless.specs.Counted.{text}
 use Rattle.prettyless.specs.Lines.{space}
 use Rattle.prettyless.specs.Tree.{Tree}
 use Rattle.json_formatter.specs.declared.style.Style.{Style}
-use Rattle.json_formatter.specs.ByValue.{are_numbers, is_number_alone, is_empty_object}
+use Rattle.json_formatter.specs.declared.style.Fill.{Fill}
+use Rattle.json_formatter.specs.declared.style.Fill.TheVariants as fills
+use Rattle.json_formatter.specs.ByValue.{item_fills, items_fill}
 use Rattle.json_formatter.specs.Flat.{is_mark}
-use Rattle.json_formatter.specs.Documents.{Read, Reader, Member, read, then_read, onto, is_number, opens, closes, with_value, with_comma}
-use Rattle.json_formatter.specs.Documents.{member, list_member, list_members, trees_of, all_numbers, listed, value}
+use Rattle.json_formatter.specs.Documents.{Read, Reader, Member, read, then_read, onto, is_json_sign, may_fill, opens, closes}
+use Rattle.json_formatter.specs.Documents.{with_value, with_comma}
+use Rattle.json_formatter.specs.Documents.{member, has_blanks, list_member, list_members, trees_of, all_may_fill, listed, value}
 use Rattle.json_formatter.proofs.Readers.{until_more, many_stops}
 use Rattle.json_formatter.proofs.ReadOn.{member_reads, value_plain}
 use Rattle.json_formatter.proofs.Shrinking.{list_member_shrinks, value_shrinks, value_keeps}
@@ -43,10 +45,10 @@ abbrev mutual
   pub tree : Style → Value → Tree
   tree style (alone s) = text s
   tree style (array vs) =
-      listed (style.fill && are_numbers vs) (text (ascii.open_bracket ∷ [])) (item_trees style vs) (text (ascii.close_bracket ∷ []))
+      listed false (items_fill style.fill vs) (text (ascii.open_bracket ∷ [])) (item_trees style vs) (text (ascii.close_bracket ∷ []))
       (pos style.indent)
   tree style (object ms) =
-      listed (style.fill && is_empty_object ms) (text (ascii.open_brace ∷ [])) (member_trees style ms) (text (ascii.close_brace ∷ []))
+      listed (not style.compact) false (text (ascii.open_brace ∷ [])) (member_trees style ms) (text (ascii.close_brace ∷ []))
       (pos style.indent)
 
   pub item_trees : Style → Items → List Tree
@@ -64,11 +66,12 @@ pub record IsPlain (s : List ℕ) : Type 0 where
   pub opens : opens s ≡ false
   pub closes : closes s ≡ false
   pub mark : is_mark s ≡ false
+  pub brace : is_json_sign ascii.open_brace s ≡ false
 
 -- one that begins with no sign and no space
 pub formed_plain : (s : List ℕ) → ends_word s ≡ false → IsPlain s
 formed_plain [] e = absurd (cc)
-formed_plain (b ∷ c ∷ bs) e = record { opens = refl; closes = refl; mark = refl }
+formed_plain (b ∷ c ∷ bs) e = record { opens = refl; closes = refl; mark = refl; brace = refl }
 formed_plain (b ∷ []) e =
     let a = (or_parts (is_operator b) (is_space b) e).0 in
     let z = or_parts ((b == 123) || (b == 125) || (b == 91) || (b == 93) || (b == 58)) (b == 44) a in
@@ -76,60 +79,76 @@ formed_plain (b ∷ []) e =
     let x = or_parts ((b == 123) || (b == 125) || (b == 91)) (b == 93) y.0 in
     let w = or_parts ((b == 123) || (b == 125)) (b == 91) x.0 in
     let v = or_parts (b == 123) (b == 125) w.0 in
-    record { opens = rw (v.0, w.1) refl; closes = rw (v.1, x.1) refl; mark = rw (z.1, y.1) refl }
+    record { opens = rw (v.0, w.1) refl; closes = rw (v.1, x.1) refl; mark = rw (z.1, y.1) refl; brace = v.0 }
 
 -- a key begins with a quote
 pub key_formed : (k : List ℕ) → head k ≡ 34 → ends_word k ≡ false
 key_formed k e = ap (λ x. is_operator x || is_space x) e
 
-key_no_number : (k : List ℕ) → head k ≡ 34 → is_number k ≡ false
-key_no_number k e = ap (λ x. (x == 45) || is_ascii_digit x) e
+-- the keys of members may all fill lines
+abbrev pub members_fill : Fill → Members → Bool
+members_fill fill no_members = true
+members_fill fill (g.member k v ms) = may_fill fill k && members_fill fill ms
+
+-- no list may
+pub array_fills : (fill : Fill) → may_fill fill (ascii.open_bracket ∷ []) ≡ false
+array_fills fills.Numbers = refl
+array_fills fills.All = refl
+array_fills fills.Nothing = refl
+
+pub object_fills : (fill : Fill) → may_fill fill (ascii.open_brace ∷ []) ≡ false
+object_fills fills.Numbers = refl
+object_fills fills.All = refl
+object_fills fills.Nothing = refl
 
 -- ---- one more member
 
--- members that were read: their documents, whether all are numbers, and what is left
-record Reads (r : Read (List Member)) (rest : List (List ℕ)) (trees : List Tree) (numbers : Bool) : Type 0 where
+-- members that were read: their documents, whether all may fill lines, and what is left
+record Reads (r : Read (List Member)) (rest : List (List ℕ)) (trees : List Tree) (fills : Bool) : Type 0 where
   left : r.left ≡ rest
   documents : trees_of r.found ≡ trees
-  are : all_numbers r.found ≡ numbers
+  are : all_may_fill r.found ≡ fills
 
 -- no more
 reads_none : (style : Style) (d : ℕ) (s : List ℕ) (rest : List (List ℕ)) → closes s ≡ true
-    → Reads (list_members (value style d) (s ∷ rest)) (s ∷ rest) [] true
+    → Reads (list_members style (value style d) (s ∷ rest)) (s ∷ rest) [] true
 reads_none style d s rest e =
-    let stops = many_stops closes (list_member (value style d)) _ (s ∷ rest) e in
+    let stops = many_stops closes (list_member style (value style d)) _ (s ∷ rest) e in
     record {
       left = ap (λ (q : Read (List Member)). q.left) stops;
       documents = ap (λ (q : Read (List Member)). trees_of q.found) stops;
-      are = ap (λ (q : Read (List Member)). all_numbers q.found) stops;
+      are = ap (λ (q : Read (List Member)). all_may_fill q.found) stops;
     }
 
 -- one more
-reads_more : {ss : List (List ℕ)} {s : List ℕ} {more rest : List (List ℕ)} {t : Tree} {trees : List Tree} {first numbers : Bool}
-    (style : Style) (d : ℕ) (left : List (List ℕ)) → ss ≡ s ∷ more → closes s ≡ false → is_number s ≡ first
+reads_more : {ss : List (List ℕ)} {s : List ℕ} {more rest : List (List ℕ)} {t : Tree} {trees : List Tree} {first later : Bool}
+    (style : Style) (d : ℕ) (left : List (List ℕ)) → ss ≡ s ∷ more → closes s ≡ false → may_fill style.fill s ≡ first
     → member (value style d) ss ≡ read t left
-    → Reads (list_members (value style d) left) rest trees numbers
-    → Reads (list_members (value style d) ss) rest (t ∷ trees) (first && numbers)
-reads_more {ss} {s} {more} {t = t} {numbers = numbers} style d left e f is m h =
+    → Reads (list_members style (value style d) left) rest trees later
+    → Reads (list_members style (value style d) ss) rest (t ∷ trees) (first && later)
+reads_more {ss} {s} {more} {t = t} {later = later} style d left e f is m h =
     let v = value style d in
-    let one : list_member v (s ∷ more) ≡ read (record { tree = t; is_number = is_number s }) left =
-    ap (λ (p : Read Tree). then_read p (λ (x : Tree). read (record { tree = x; is_number = is_number s }))) (ap (member v) (sym e) ∙ m) in
-    let next : list_members v ss ≡ onto (record { tree = t; is_number = is_number s }) (list_members v left) =
-    ap (list_members v) e ∙ until_more closes (list_member v) (list_member_shrinks v (value_shrinks style d) (value_keeps style d)) s more f
-    ∙ ap (λ (p : Read Member). onto p.found (list_members v p.left)) one in
+    let one : list_member style v (s ∷ more) ≡ read (record { tree = t; fills = may_fill style.fill s }) left =
+    ap (λ (p : Read Tree). then_read p (λ (x : Tree). read (record { tree = x; fills = may_fill style.fill s })))
+    (ap (member v) (sym e) ∙ m) in
+    let next : list_members style v ss ≡ onto (record { tree = t; fills = may_fill style.fill s }) (list_members style v left) =
+    ap (list_members style v) e
+    ∙ until_more closes (list_member style v) (list_member_shrinks style v (value_shrinks style d) (value_keeps style d)) s more f
+    ∙ ap (λ (p : Read Member). onto p.found (list_members style v p.left)) one in
     record {
       left = ap (λ (q : Read (List Member)). q.left) next ∙ h.left;
       documents = ap (λ (q : Read (List Member)). trees_of q.found) next ∙ ap (λ (ts : List Tree). t ∷ ts) h.documents;
-      are = ap (λ (q : Read (List Member)). all_numbers q.found) next ∙ ap (λ (x : Bool). is_number s && x) h.are
-          ∙ ap (λ (x : Bool). x && numbers) is;
+      are = ap (λ (q : Read (List Member)). all_may_fill q.found) next ∙ ap (λ (x : Bool). may_fill style.fill s && x) h.are
+          ∙ ap (λ (x : Bool). x && later) is;
     }
 
 -- a list whose members were read
-reads_list : (style : Style) (d : ℕ) (s close : List ℕ) (ss rest : List (List ℕ)) (trees : List Tree) (numbers : Bool) → opens s ≡ true
-    → Reads (list_members (value style d) ss) (close ∷ rest) trees numbers
-    → value style (suc d) (s ∷ ss) ≡ read (listed (style.fill && numbers) (text s) trees (text close) (pos style.indent)) rest
+reads_list : (style : Style) (d : ℕ) (s close : List ℕ) (ss rest : List (List ℕ)) (trees : List Tree) (fills : Bool) → opens s ≡ true
+    → Reads (list_members style (value style d) ss) (close ∷ rest) trees fills
+    → value style (suc d) (s ∷ ss) ≡ read
+    (listed (has_blanks style s) (is_json_sign ascii.open_bracket s && fills) (text s) trees (text close) (pos style.indent)) rest
 unfolding value
-reads_list style d s close ss rest trees numbers e h = rw (e, h.left, h.documents, h.are) refl
+reads_list style d s close ss rest trees fills e h = rw (e, h.left, h.documents, h.are) refl
 
 -- ---- values
 
@@ -139,12 +158,12 @@ pub record Begins (v : Value) (rest : List (List ℕ)) : Type 0 where
   pub tail : List (List ℕ)
   pub is : spelled v ++ rest ≡ first ∷ tail
   pub closes : closes first ≡ false
-  pub number : is_number first ≡ is_number_alone v
+  pub fills : (fill : Fill) → may_fill fill first ≡ item_fills fill v
 
 pub begins : (v : Value) → IsFormed v → (rest : List (List ℕ)) → Begins v rest
-begins (alone s) h rest = record { first = s; tail = rest; is = refl; closes = (formed_plain s h).closes; number = refl }
-begins (array vs) h rest = record { first = _; tail = spelled_items vs ++ rest; is = refl; closes = refl; number = refl }
-begins (object ms) h rest = record { first = _; tail = spelled_members ms ++ rest; is = refl; closes = refl; number = refl }
+begins (alone s) h rest = record { first = s; tail = rest; is = refl; closes = (formed_plain s h).closes; fills = λ fill. refl }
+begins (array vs) h rest = record { first = _; tail = spelled_items vs ++ rest; is = refl; closes = refl; fills = array_fills }
+begins (object ms) h rest = record { first = _; tail = spelled_members ms ++ rest; is = refl; closes = refl; fills = object_fills }
 
 -- no colon after an item, and a comma where more come
 no_colon_after : (v : Reader Tree) (t : Tree) (vs : Items) (rest : List (List ℕ))
@@ -199,35 +218,35 @@ mutual
   reads_value style d (alone s) l h rest = value_plain style d s rest (formed_plain s h).opens
   reads_value style zero (array vs) l h rest = absurd (none_deeper (items_depth vs) l)
   reads_value style (suc d) (array vs) l h rest =
-      reads_list style d _ _ (spelled_items vs ++ rest) rest (item_trees style vs) (are_numbers vs) refl
+      reads_list style d _ _ (spelled_items vs ++ rest) rest (item_trees style vs) (items_fill style.fill vs) refl
       (reads_items style d vs (less_deep (items_depth vs) d l) h rest)
   reads_value style zero (object ms) l h rest = absurd (none_deeper (members_depth ms) l)
   reads_value style (suc d) (object ms) l h rest =
-      reads_list style d _ _ (spelled_members ms ++ rest) rest (member_trees style ms) (is_empty_object ms) refl
+      reads_list style d _ _ (spelled_members ms ++ rest) rest (member_trees style ms) (members_fill style.fill ms) refl
       (reads_members style d ms (less_deep (members_depth ms) d l) h rest)
 
   reads_items : (style : Style) (d : ℕ) (vs : Items) → items_depth vs ≤ d → AreFormedItems vs → (rest : List (List ℕ))
-      → Reads (list_members (value style d) (spelled_items vs ++ rest)) ((ascii.close_bracket ∷ []) ∷ rest) (item_trees style vs)
-      (are_numbers vs)
+      → Reads (list_members style (value style d) (spelled_items vs ++ rest)) ((ascii.close_bracket ∷ []) ∷ rest) (item_trees style vs)
+      (items_fill style.fill vs)
   reads_items style d no_items l h rest = reads_none style d _ rest refl
   reads_items style d (item v vs) l h rest =
       let begin = begins v h.0 (more_items vs ++ rest) in
       let first = reads_value style d v (max_left (depth v) (items_depth vs) d l) h.0 (more_items vs ++ rest) in
       let later = reads_items style d vs (max_right (depth v) (items_depth vs) d l) h.1 rest in
       let all =
-      reads_more style d (spelled_items vs ++ rest) begin.is begin.closes begin.number
+      reads_more style d (spelled_items vs ++ rest) begin.is begin.closes (begin.fills style.fill)
       (reads_item style d v vs rest first) later in
       rw (append_assoc (spelled v) (more_items vs) rest) all
 
   reads_members : (style : Style) (d : ℕ) (ms : Members) → members_depth ms ≤ d → AreFormedMembers ms → (rest : List (List ℕ))
-      → Reads (list_members (value style d) (spelled_members ms ++ rest)) ((ascii.close_brace ∷ []) ∷ rest) (member_trees style ms)
-      (is_empty_object ms)
+      → Reads (list_members style (value style d) (spelled_members ms ++ rest)) ((ascii.close_brace ∷ []) ∷ rest) (member_trees style ms)
+      (members_fill style.fill ms)
   reads_members style d no_members l h rest = reads_none style d _ rest refl
   reads_members style d (g.member k v ms) l h rest =
       let plain = formed_plain k (key_formed k h.0) in
       let first = reads_value style d v (max_left (depth v) (members_depth ms) d l) h.1 (more_members ms ++ rest) in
       let later = reads_members style d ms (max_right (depth v) (members_depth ms) d l) h.2 rest in
       let all =
-      reads_more {s = k} style d (spelled_members ms ++ rest) refl plain.closes (key_no_number k h.0)
+      reads_more {s = k} style d (spelled_members ms ++ rest) refl plain.closes refl
       (reads_member style d k v ms rest plain.opens first) later in
       rw (append_assoc (spelled v) (more_members ms) rest) all

@@ -1,5 +1,5 @@
 -- What the scanner knows after one lexeme more.
-use Rattle.std.proofs.Common.{◌≡◌, ℕ, suc, ◌+◌, ◌-◌, ◌<◌, true, false, inl, inr, Some, None, refl, sym, ◌∙◌, ap, subst, arith}
+use Rattle.std.proofs.Common.{◌≡◌, ℕ, suc, ◌+◌, ◌-◌, ◌<◌, Bool, true, false, inl, inr, Some, None, refl, sym, ◌∙◌, ap, subst, arith}
 use Rattle.std.proofs.Common.{List, [], ◌∷◌, ◌++◌, length, drop, take, get_or, length-append, length-drop}
 use Rattle.std.proofs.Common.{get_or-set_same, get_or-set_other, drop-cons}
 use Rattle.std.proofs.Math.ListN.{get_or-append}
@@ -22,16 +22,16 @@ rests_more s ss o = rw o refl
 
 -- ---- a lexeme that neither opens nor closes a list
 
-pub scanned_plain : (rests : List (List (List ℕ))) (lists : List Opened) (unclosed : List ℕ) (t : ℕ)
+pub scanned_plain : {compact : Bool} (rests : List (List (List ℕ))) (lists : List Opened) (unclosed : List ℕ) (t : ℕ)
     (s : List ℕ) (ss : List (List ℕ))
-    → IsScanned rests lists unclosed t (s ∷ ss) → opens s ≡ false → closes s ≡ false
-    → IsScanned rests lists unclosed (t + lexeme_columns s) ss
-scanned_plain rests lists unclosed t s ss k o c = record {
+    → IsScanned compact rests lists unclosed t (s ∷ ss) → opens s ≡ false → closes s ≡ false
+    → IsScanned compact rests lists unclosed (t + lexeme_columns compact s ss) ss
+scanned_plain {compact} rests lists unclosed t s ss k o c = record {
   unseen = sym (rests_same s ss o) ∙ k.unseen;
   known = k.known;
   unknown = k.unknown;
   within = k.within;
-  inner = λ p h. unclosed_plain _ _ t _ s ss (k.inner p h) o c;
+  inner = λ p h. unclosed_plain compact _ _ t _ s ss (k.inner p h) o c;
 }
 
 -- ---- a lexeme that opens one
@@ -46,8 +46,8 @@ first_unseen rests n ss later e =
     (cc, cc)
 
 -- a list that is open, at another index or total
-moved : {i j a b t u n m : ℕ} {left : List (List ℕ)} (rests : List (List (List ℕ))) → i ≡ j → a ≡ b → t ≡ u → n ≡ m
-    → IsUnclosed (rest_at rests j) b u m left → IsUnclosed (rest_at rests i) a t n left
+moved : {compact : Bool} {i j a b t u n m : ℕ} {left : List (List ℕ)} (rests : List (List (List ℕ))) → i ≡ j → a ≡ b → t ≡ u → n ≡ m
+    → IsUnclosed compact (rest_at rests j) b u m left → IsUnclosed compact (rest_at rests i) a t n left
 moved rests ij ab tu nm h = rw (ij, ab, tu, nm) h
 
 -- with the list that was opened last
@@ -66,9 +66,9 @@ list_more lists t = length-append lists (record { start = t; width = None } ∷ 
 -- ---- a lexeme that closes one
 
 -- where none is open that the scanner saw opened
-pub scanned_outside : (rests : List (List (List ℕ))) (lists : List Opened) (t : ℕ) (s : List ℕ) (ss : List (List ℕ))
-    → IsScanned rests lists [] t (s ∷ ss) → opens s ≡ false → IsScanned rests lists [] (t + lexeme_columns s) ss
-scanned_outside rests lists t s ss k o = record {
+pub scanned_outside : {compact : Bool} (rests : List (List (List ℕ))) (lists : List Opened) (t : ℕ) (s : List ℕ) (ss : List (List ℕ))
+    → IsScanned compact rests lists [] t (s ∷ ss) → opens s ≡ false → IsScanned compact rests lists [] (t + lexeme_columns compact s ss) ss
+scanned_outside {compact} rests lists t s ss k o = record {
   unseen = sym (rests_same s ss o) ∙ k.unseen;
   known = k.known;
   unknown = k.unknown;
@@ -76,12 +76,13 @@ scanned_outside rests lists t s ss k o = record {
   inner = λ p h. let no : ⊥ = omega arith in absurd no;
 }
 
-pub scanned_opening : (rests : List (List (List ℕ))) (lists : List Opened) (unclosed : List ℕ) (t : ℕ)
+pub scanned_opening : {compact : Bool} (rests : List (List (List ℕ))) (lists : List Opened) (unclosed : List ℕ) (t : ℕ)
     (s : List ℕ) (ss : List (List ℕ))
-    → IsScanned rests lists unclosed t (s ∷ ss) → opens s ≡ true
-    → IsScanned rests (with_list lists (t + lexeme_columns s)) (unclosed ++ length lists ∷ []) (t + lexeme_columns s) ss
-scanned_opening rests lists unclosed t s ss k o =
-    let total = t + lexeme_columns s in
+    → IsScanned compact rests lists unclosed t (s ∷ ss) → opens s ≡ true
+    → IsScanned compact rests (with_list lists (t + lexeme_columns compact s ss)) (unclosed ++ length lists ∷ [])
+    (t + lexeme_columns compact s ss) ss
+scanned_opening {compact} rests lists unclosed t s ss k o =
+    let total = t + lexeme_columns compact s ss in
     let n = length lists in
     let m = length unclosed in
     let more = with_list lists total in
@@ -121,8 +122,8 @@ scanned_opening rests lists unclosed t s ss k o =
             moved rests e begins refl d
             (record {
               begun = omega arith;
-              width = ap (width_with_comma 1) first.0
-                  ∙ sym (ap (λ j. wider j (width_with_comma 1 ss)) none ∙ wider_none (width_with_comma 1 ss));
+              width = ap (width_with_comma compact 1) first.0
+                  ∙ sym (ap (λ j. wider j (width_with_comma compact 1 ss)) none ∙ wider_none (width_with_comma compact 1 ss));
             })
         | inr ne ↦
             let lt : p < m = omega arith in
@@ -130,7 +131,7 @@ scanned_opening rests lists unclosed t s ss k o =
             let begins : (list_at more (get_or deeper p 0)).start ≡ (list_at lists (get_or unclosed p 0)).start
             = ap (λ j. (list_at more j).start) e ∙ ap (λ l. l.start) (list_before lists total _ (k.within p lt)) in
             let d : length deeper - p ≡ m - p + 1 = omega arith in
-            moved rests e begins refl d (unclosed_opening _ _ t (m - p) s ss (k.inner p lt) o)
+            moved rests e begins refl d (unclosed_opening compact _ _ t (m - p) s ss (k.inner p lt) o)
       ];
     }
 
@@ -146,12 +147,13 @@ start_same lists i j total more h =
     ]
 
 -- the innermost, of index i
-closed_inner : {rests : List (List (List ℕ))} {lists : List Opened} {unclosed : List ℕ} {t i : ℕ} {s : List ℕ} {ss : List (List ℕ)}
-    (m : ℕ) → IsScanned rests lists unclosed t (s ∷ ss) → opens s ≡ false → closes s ≡ true
+closed_inner : {compact : Bool} {rests : List (List (List ℕ))} {lists : List Opened} {unclosed : List ℕ} {t i : ℕ} {s : List ℕ}
+    {ss : List (List ℕ)} (m : ℕ) → IsScanned compact rests lists unclosed t (s ∷ ss) → opens s ≡ false → closes s ≡ true
     → length unclosed ≡ m + 1 → get_or unclosed m 0 ≡ i
-    → IsScanned rests (closed_at lists i (t + lexeme_columns s) (comma_columns ss)) (take m unclosed) (t + lexeme_columns s) ss
-closed_inner {rests} {lists} {unclosed} {t} {i} {s} {ss} m k o c count at_last =
-    let total = t + lexeme_columns s in
+    → IsScanned compact rests (closed_at lists i (t + lexeme_columns compact s ss) (comma_columns ss)) (take m unclosed)
+    (t + lexeme_columns compact s ss) ss
+closed_inner {compact} {rests} {lists} {unclosed} {t} {i} {s} {ss} m k o c count at_last =
+    let total = t + lexeme_columns compact s ss in
     let more = comma_columns ss in
     let new : Opened = record (list_at lists i) { width = Some (total - (list_at lists i).start + more) } in
     let after = closed_at lists i total more in
@@ -161,17 +163,17 @@ closed_inner {rests} {lists} {unclosed} {t} {i} {s} {ss} m k o c count at_last =
     let same : length after ≡ length lists = length-set lists i new in
     let set_here : list_at after i ≡ new = get_or-set_same lists i new no_list within in
     let one : length unclosed - m ≡ 1 = omega arith in
-    let open_here : IsUnclosed (rest_at rests i) (list_at lists i).start t (length unclosed - m) (s ∷ ss)
-    = subst (λ j. IsUnclosed (rest_at rests j) (list_at lists j).start t (length unclosed - m) (s ∷ ss)) at_last (k.inner m last) in
-    let width : width_with_comma 1 (rest_at rests i) ≡ Some (total - (list_at lists i).start + more)
-    = closed_width (rest_at rests i) _ t _ s ss open_here o c (omega arith) in
+    let open_here : IsUnclosed compact (rest_at rests i) (list_at lists i).start t (length unclosed - m) (s ∷ ss)
+    = subst (λ j. IsUnclosed compact (rest_at rests j) (list_at lists j).start t (length unclosed - m) (s ∷ ss)) at_last (k.inner m last) in
+    let width : width_with_comma compact 1 (rest_at rests i) ≡ Some (total - (list_at lists i).start + more)
+    = closed_width compact (rest_at rests i) _ t _ s ss open_here o c (omega arith) in
     record {
       unseen = sym (rests_same s ss o) ∙ k.unseen ∙ ap (λ n. drop n rests) (sym same);
       known = λ j w h e. elim (cases_eq j i) [
         | inl at ↦
             let is : (list_at after j).width ≡ Some (total - (list_at lists i).start + more)
             = ap (λ q. (list_at after q).width) at ∙ ap (λ l. l.width) set_here in
-            ap (λ q. width_with_comma 1 (rest_at rests q)) at ∙ width ∙ sym is ∙ e
+            ap (λ q. width_with_comma compact 1 (rest_at rests q)) at ∙ width ∙ sym is ∙ e
         | inr ne ↦
             let other : list_at after j ≡ list_at lists j = get_or-set_other lists i j new no_list ne in
             k.known j w (omega arith) (sym (ap (λ l. l.width) other) ∙ e)
@@ -203,26 +205,26 @@ closed_inner {rests} {lists} {unclosed} {t} {i} {s} {ss} m k o c count at_last =
           = ap (λ q. (list_at after q).start) e ∙ start_same lists i _ total more within in
           let d : length (take m unclosed) - p ≡ length unclosed - p - 1 = omega arith in
           moved rests e begins refl d
-          (unclosed_closing _ _ t (length unclosed - p) s ss (k.inner p (omega arith)) o c (omega arith));
+          (unclosed_closing compact _ _ t (length unclosed - p) s ss (k.inner p (omega arith)) o c (omega arith));
     }
 
-pub scanned_closing : (rests : List (List (List ℕ))) (lists : List Opened) (unclosed : List ℕ) (t : ℕ)
+pub scanned_closing : {compact : Bool} (rests : List (List (List ℕ))) (lists : List Opened) (unclosed : List ℕ) (t : ℕ)
     (s : List ℕ) (ss : List (List ℕ))
-    → IsScanned rests lists unclosed t (s ∷ ss) → opens s ≡ false → closes s ≡ true
-    → IsScanned rests (closed_last lists unclosed (t + lexeme_columns s) (comma_columns ss)) (take (length unclosed - 1) unclosed)
-    (t + lexeme_columns s) ss
-scanned_closing rests lists [] t s ss k o c = scanned_outside rests lists t s ss k o
-scanned_closing rests lists (u ∷ us) t s ss k o c =
+    → IsScanned compact rests lists unclosed t (s ∷ ss) → opens s ≡ false → closes s ≡ true
+    → IsScanned compact rests (closed_last lists unclosed (t + lexeme_columns compact s ss) (comma_columns ss))
+    (take (length unclosed - 1) unclosed) (t + lexeme_columns compact s ss) ss
+scanned_closing {compact} rests lists [] t s ss k o c = scanned_outside rests lists t s ss k o
+scanned_closing {compact} rests lists (u ∷ us) t s ss k o c =
     let e : length us ≡ length (u ∷ us) - 1 = omega arith in
-    let total = t + lexeme_columns s in
-    subst (λ m. IsScanned rests (closed_last lists (u ∷ us) total (comma_columns ss)) (take m (u ∷ us)) total ss) e
+    let total = t + lexeme_columns compact s ss in
+    subst (λ m. IsScanned compact rests (closed_last lists (u ∷ us) total (comma_columns ss)) (take m (u ∷ us)) total ss) e
     (closed_inner (length us) k o c (omega arith) refl)
 
 -- ---- from the reader on
 
 -- nothing is known
-pub scanned_nothing : (t : ℕ) (left : List (List ℕ)) → IsScanned (rests_of left) [] [] t left
-scanned_nothing t left = record {
+pub scanned_nothing : (compact : Bool) (t : ℕ) (left : List (List ℕ)) → IsScanned compact (rests_of left) [] [] t left
+scanned_nothing compact t left = record {
   unseen = refl;
   known = λ i w h e. let no : ⊥ = omega arith in absurd no;
   unknown = λ i h e. let no : ⊥ = omega arith in absurd no;
@@ -250,7 +252,7 @@ pub window_anew : (left : List (List ℕ)) (scanner : Scanner) → scanner.lexem
     → scanner.unclosed.items ≡ [] → IsWindow left scanner 0 None
 window_anew left scanner at lists unclosed = record {
   rests = rests_of left;
-  knows = rw (at, lists, unclosed) (scanned_nothing scanner.total left);
+  knows = rw (at, lists, unclosed) (scanned_nothing scanner.compact scanner.total left);
   seen = omega arith;
   ahead = refl;
   opened = tt;

@@ -1,8 +1,9 @@
 -- How the width of a list that is open grows, lexeme by lexeme.
-use Rattle.std.proofs.Common.{◌≡◌, ℕ, ◌+◌, ◌-◌, ◌<◌, ◌≤◌, true, false, inl, inr, nat_le, refl, sym, ◌∙◌, ap, arith, add_assoc}
+use Rattle.std.proofs.Common.{◌≡◌, ℕ, ◌+◌, ◌-◌, ◌<◌, ◌≤◌, Bool, true, false, inl, inr, nat_le, refl, sym, ◌∙◌, ap, arith, add_assoc}
 use Rattle.std.proofs.Common.{List, [], ◌∷◌, Option, Some, None}
 use Rattle.std.proofs.lemmas.Bool.{le-leb, lt-leb, cases_lt, cases_Bool}
 use Rattle.std.proofs.lemmas.Grind.{common_steps}
+use Rattle.prettyless_model.specs.Metrics.{text_width}
 use Rattle.json_formatter.specs.Documents.{opens, closes}
 use Rattle.json_formatter.specs.Flat.{lexeme_columns, wider}
 use Rattle.json_formatter.specs.Window.{comma_columns, width_with_comma, IsUnclosed, IsWidthUpTo}
@@ -29,89 +30,94 @@ past_wider : (a w : ℕ) (o : Option ℕ) → wider a o ≡ Some w → (v : ℕ)
 past_wider a w None e = cc
 past_wider a w (Some n) e = (n, refl, cc)
 
-pub at_plain : (n : ℕ) (s : List ℕ) (ss : List (List ℕ)) → opens s ≡ false → closes s ≡ false
-    → width_with_comma n (s ∷ ss) ≡ wider (lexeme_columns s) (width_with_comma n ss)
-at_plain n s ss o c = rw (o, c) refl
+pub at_plain : (compact : Bool) (n : ℕ) (s : List ℕ) (ss : List (List ℕ)) → opens s ≡ false → closes s ≡ false
+    → width_with_comma compact n (s ∷ ss) ≡ wider (lexeme_columns compact s ss) (width_with_comma compact n ss)
+at_plain compact n s ss o c = rw (o, c) refl
 
-pub at_opening : (n : ℕ) (s : List ℕ) (ss : List (List ℕ)) → opens s ≡ true
-    → width_with_comma n (s ∷ ss) ≡ wider (lexeme_columns s) (width_with_comma (n + 1) ss)
-at_opening n s ss o = rw o refl
+pub at_opening : (compact : Bool) (n : ℕ) (s : List ℕ) (ss : List (List ℕ)) → opens s ≡ true
+    → width_with_comma compact n (s ∷ ss) ≡ wider (lexeme_columns compact s ss) (width_with_comma compact (n + 1) ss)
+at_opening compact n s ss o = rw o refl
 
-pub at_closing : (n : ℕ) (s : List ℕ) (ss : List (List ℕ)) → opens s ≡ false → closes s ≡ true → 1 < n
-    → width_with_comma n (s ∷ ss) ≡ wider (lexeme_columns s) (width_with_comma (n - 1) ss)
-at_closing n s ss o c h =
+pub at_closing : (compact : Bool) (n : ℕ) (s : List ℕ) (ss : List (List ℕ)) → opens s ≡ false → closes s ≡ true → 1 < n
+    → width_with_comma compact n (s ∷ ss) ≡ wider (lexeme_columns compact s ss) (width_with_comma compact (n - 1) ss)
+at_closing compact n s ss o c h =
     let e : nat_le n 1 ≡ false = lt-leb n 1 h in
     rw (o, c, e) refl
 
-pub at_last : (n : ℕ) (s : List ℕ) (ss : List (List ℕ)) → opens s ≡ false → closes s ≡ true → n ≤ 1
-    → width_with_comma n (s ∷ ss) ≡ Some (lexeme_columns s + comma_columns ss)
-at_last n s ss o c h =
+pub at_last : (compact : Bool) (n : ℕ) (s : List ℕ) (ss : List (List ℕ)) → opens s ≡ false → closes s ≡ true → n ≤ 1
+    → width_with_comma compact n (s ∷ ss) ≡ Some (lexeme_columns compact s ss + comma_columns ss)
+at_last compact n s ss o c h =
     let e : nat_le n 1 ≡ true = le-leb n 1 h in
     rw (o, c, e) refl
 
 -- a lexeme that opens a list takes a column at least
-pub opens_wide : (s : List ℕ) → opens s ≡ true → 1 ≤ lexeme_columns s
-opens_wide [] o = cc
-opens_wide (b ∷ []) o = grind (arith, common_steps)
-opens_wide (b ∷ c ∷ bs) o = cc
+pub opens_wide : (compact : Bool) (s : List ℕ) (ss : List (List ℕ)) → opens s ≡ true → 1 ≤ lexeme_columns compact s ss
+opens_wide compact [] ss o = cc
+opens_wide compact (b ∷ []) ss o = let wide : 1 ≤ text_width (b ∷ []) = grind (arith, common_steps) in omega (arith, wide)
+opens_wide compact (b ∷ c ∷ bs) ss o = cc
 
 -- the next lexeme is part of the width
-at_least : (n w : ℕ) (s : List ℕ) (ss : List (List ℕ)) → width_with_comma n (s ∷ ss) ≡ Some w → lexeme_columns s ≤ w
-at_least n w s ss e = elim (cases_Bool (opens s)) [
-  | inl o ↦ within_wider (lexeme_columns s) w (width_with_comma (n + 1) ss) (sym (at_opening n s ss o) ∙ e)
+at_least : (compact : Bool) (n w : ℕ) (s : List ℕ) (ss : List (List ℕ)) → width_with_comma compact n (s ∷ ss) ≡ Some w
+    → lexeme_columns compact s ss ≤ w
+at_least compact n w s ss e = elim (cases_Bool (opens s)) [
+  | inl o ↦ within_wider (lexeme_columns compact s ss) w (width_with_comma compact (n + 1) ss) (sym (at_opening compact n s ss o) ∙ e)
   | inr o ↦ elim (cases_Bool (closes s)) [
     | inl c ↦ elim (cases_lt 1 n) [
-      | inl more ↦ within_wider (lexeme_columns s) w (width_with_comma (n - 1) ss) (sym (at_closing n s ss o c more) ∙ e)
-      | inr last ↦ let both = sym (at_last n s ss o c last) ∙ e in let h : lexeme_columns s + comma_columns ss ≡ w = cc in omega arith
+      | inl more ↦
+          within_wider (lexeme_columns compact s ss) w (width_with_comma compact (n - 1) ss) (sym (at_closing compact n s ss o c more) ∙ e)
+      | inr last ↦
+          let both = sym (at_last compact n s ss o c last) ∙ e in
+          let h : lexeme_columns compact s ss + comma_columns ss ≡ w = cc in
+          omega arith
     ]
-    | inr c ↦ within_wider (lexeme_columns s) w (width_with_comma n ss) (sym (at_plain n s ss o c) ∙ e)
+    | inr c ↦ within_wider (lexeme_columns compact s ss) w (width_with_comma compact n ss) (sym (at_plain compact n s ss o c) ∙ e)
   ]
 ]
 
 -- ---- a list that is not closed yet
 
-pub unclosed_plain : (rest : List (List ℕ)) (start t n : ℕ) (s : List ℕ) (ss : List (List ℕ))
-    → IsUnclosed rest start t n (s ∷ ss) → opens s ≡ false → closes s ≡ false
-    → IsUnclosed rest start (t + lexeme_columns s) n ss
-unclosed_plain rest start t n s ss u o c = record {
+pub unclosed_plain : (compact : Bool) (rest : List (List ℕ)) (start t n : ℕ) (s : List ℕ) (ss : List (List ℕ))
+    → IsUnclosed compact rest start t n (s ∷ ss) → opens s ≡ false → closes s ≡ false
+    → IsUnclosed compact rest start (t + lexeme_columns compact s ss) n ss
+unclosed_plain compact rest start t n s ss u o c = record {
   begun = let h = u.begun in omega arith;
-  width = u.width ∙ ap (wider (t - start)) (at_plain n s ss o c)
-      ∙ wider_more start t (lexeme_columns s) (width_with_comma n ss) u.begun;
+  width = u.width ∙ ap (wider (t - start)) (at_plain compact n s ss o c)
+      ∙ wider_more start t (lexeme_columns compact s ss) (width_with_comma compact n ss) u.begun;
 }
 
-pub unclosed_opening : (rest : List (List ℕ)) (start t n : ℕ) (s : List ℕ) (ss : List (List ℕ))
-    → IsUnclosed rest start t n (s ∷ ss) → opens s ≡ true
-    → IsUnclosed rest start (t + lexeme_columns s) (n + 1) ss
-unclosed_opening rest start t n s ss u o = record {
+pub unclosed_opening : (compact : Bool) (rest : List (List ℕ)) (start t n : ℕ) (s : List ℕ) (ss : List (List ℕ))
+    → IsUnclosed compact rest start t n (s ∷ ss) → opens s ≡ true
+    → IsUnclosed compact rest start (t + lexeme_columns compact s ss) (n + 1) ss
+unclosed_opening compact rest start t n s ss u o = record {
   begun = let h = u.begun in omega arith;
-  width = u.width ∙ ap (wider (t - start)) (at_opening n s ss o)
-      ∙ wider_more start t (lexeme_columns s) (width_with_comma (n + 1) ss) u.begun;
+  width = u.width ∙ ap (wider (t - start)) (at_opening compact n s ss o)
+      ∙ wider_more start t (lexeme_columns compact s ss) (width_with_comma compact (n + 1) ss) u.begun;
 }
 
-pub unclosed_closing : (rest : List (List ℕ)) (start t n : ℕ) (s : List ℕ) (ss : List (List ℕ))
-    → IsUnclosed rest start t n (s ∷ ss) → opens s ≡ false → closes s ≡ true → 1 < n
-    → IsUnclosed rest start (t + lexeme_columns s) (n - 1) ss
-unclosed_closing rest start t n s ss u o c h = record {
+pub unclosed_closing : (compact : Bool) (rest : List (List ℕ)) (start t n : ℕ) (s : List ℕ) (ss : List (List ℕ))
+    → IsUnclosed compact rest start t n (s ∷ ss) → opens s ≡ false → closes s ≡ true → 1 < n
+    → IsUnclosed compact rest start (t + lexeme_columns compact s ss) (n - 1) ss
+unclosed_closing compact rest start t n s ss u o c h = record {
   begun = let b = u.begun in omega arith;
-  width = u.width ∙ ap (wider (t - start)) (at_closing n s ss o c h)
-      ∙ wider_more start t (lexeme_columns s) (width_with_comma (n - 1) ss) u.begun;
+  width = u.width ∙ ap (wider (t - start)) (at_closing compact n s ss o c h)
+      ∙ wider_more start t (lexeme_columns compact s ss) (width_with_comma compact (n - 1) ss) u.begun;
 }
 
-pub closed_width : (rest : List (List ℕ)) (start t n : ℕ) (s : List ℕ) (ss : List (List ℕ))
-    → IsUnclosed rest start t n (s ∷ ss) → opens s ≡ false → closes s ≡ true → n ≤ 1
-    → width_with_comma 1 rest ≡ Some (t + lexeme_columns s - start + comma_columns ss)
-closed_width rest start t n s ss u o c h =
+pub closed_width : (compact : Bool) (rest : List (List ℕ)) (start t n : ℕ) (s : List ℕ) (ss : List (List ℕ))
+    → IsUnclosed compact rest start t n (s ∷ ss) → opens s ≡ false → closes s ≡ true → n ≤ 1
+    → width_with_comma compact 1 rest ≡ Some (t + lexeme_columns compact s ss - start + comma_columns ss)
+closed_width compact rest start t n s ss u o c h =
     let b = u.begun in
     let comma = comma_columns ss in
-    let e : t - start + (lexeme_columns s + comma) ≡ t + lexeme_columns s - start + comma = omega arith in
-    u.width ∙ ap (wider (t - start)) (at_last n s ss o c h) ∙ ap Some e
+    let e : t - start + (lexeme_columns compact s ss + comma) ≡ t + lexeme_columns compact s ss - start + comma = omega arith in
+    u.width ∙ ap (wider (t - start)) (at_last compact n s ss o c h) ∙ ap Some e
 
 -- the next lexeme is too wide
-pub too_wide : (rest : List (List ℕ)) (start t n most : ℕ) (s : List ℕ) (ss : List (List ℕ))
-    → IsUnclosed rest start t n (s ∷ ss) → most < t - start + lexeme_columns s → IsWidthUpTo most rest None
-too_wide rest start t n most s ss u past = λ w is.
+pub too_wide : (compact : Bool) (rest : List (List ℕ)) (start t n most : ℕ) (s : List ℕ) (ss : List (List ℕ))
+    → IsUnclosed compact rest start t n (s ∷ ss) → most < t - start + lexeme_columns compact s ss → IsWidthUpTo compact most rest None
+too_wide compact rest start t n most s ss u past = λ w is.
     let h = sym u.width ∙ is in
-    let fits = past_wider (t - start) w (width_with_comma n (s ∷ ss)) h in
-    let least : lexeme_columns s ≤ fits.0 = at_least n fits.0 s ss fits.1 in
+    let fits = past_wider (t - start) w (width_with_comma compact n (s ∷ ss)) h in
+    let least : lexeme_columns compact s ss ≤ fits.0 = at_least compact n fits.0 s ss fits.1 in
     let sum : t - start + fits.0 ≡ w = fits.2 in
     omega arith

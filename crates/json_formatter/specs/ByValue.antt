@@ -1,5 +1,6 @@
 -- The layout of a JSON text by the value that its lexemes spell.
-use Rattle.std.specs.Prelude.{◌≡◌, ℕ, ◌+◌, ◌≤◌, Bool, true, false, ◌&&◌, ◌||◌, nat_le, List, [], ◌∷◌, ◌++◌, length, Some, if◌then◌else◌}
+use Rattle.std.specs.Prelude.{◌≡◌, ℕ, ◌+◌, ◌≤◌, Bool, true, false, not, ◌&&◌, ◌||◌, nat_le, List, [], ◌∷◌, ◌++◌, length, Some}
+use Rattle.std.specs.Prelude.{if◌then◌else◌}
 use Rattle.json.specs.Ascii as ascii
 use Rattle.json.specs.Json.{Json}
 use Rattle.json_validity.specs.Document.{document, max_depth}
@@ -9,8 +10,10 @@ use Rattle.json_lexemes.specs.Lexemes.{lexemes}
 use Rattle.prettyless_model.specs.Column.{saturating_add}
 use Rattle.prettyless_model.specs.Spaces.{spaces}
 use Rattle.json_formatter.specs.BlankLines.{layout_of, with_kept_lines}
-use Rattle.json_formatter.specs.Documents.{is_number}
-use Rattle.json_formatter.specs.Flat.{flat_line, flat_width}
+use Rattle.json_formatter.specs.Documents.{may_fill}
+use Rattle.json_formatter.specs.Flat.{blank_if, flat_line, flat_width}
+use Rattle.json_formatter.specs.Spelling.{with_spelling}
+use Rattle.json_formatter.specs.declared.style.Fill.{Fill}
 use Rattle.json_formatter.specs.declared.style.Style.{Style}
 
 -- ---- lines
@@ -49,60 +52,96 @@ abbrev pub is_empty_object : Members → Bool
 is_empty_object no_members = true
 is_empty_object (member key v ms) = false
 
--- ---- numbers that fill lines
+-- ---- flat lines
 
--- a number
-abbrev pub is_number_alone : Value → Bool
-is_number_alone (alone s) = is_number s
-is_number_alone _ = false
+-- what stands inside braces: a blank, unless the style is compact
+abbrev pub brace_blank : Style → List (List ℕ)
+brace_blank style = blank_if (not style.compact)
 
--- numbers alone
-abbrev pub are_numbers : Items → Bool
-are_numbers no_items = true
-are_numbers (item v vs) = is_number_alone v && are_numbers vs
+-- the texts of a value on a flat line: its lexemes, with a space after each comma and colon, and blanks inside the braces of each object
+-- that has members
+abbrev mutual
+  pub flat : Style → Value → List (List ℕ)
+  flat style (alone s) = s ∷ []
+  flat style (array vs) = (ascii.open_bracket ∷ []) ∷ flat_items style vs
+  flat style (object ms) = (ascii.open_brace ∷ []) ∷ flat_members style ms
+
+  -- with the closing bracket
+  pub flat_items : Style → Items → List (List ℕ)
+  flat_items style no_items = (ascii.close_bracket ∷ []) ∷ []
+  flat_items style (item v vs) = flat style v ++ more_flat_items style vs
+
+  -- the same after an item
+  pub more_flat_items : Style → Items → List (List ℕ)
+  more_flat_items style no_items = (ascii.close_bracket ∷ []) ∷ []
+  more_flat_items style (item v vs) = (ascii.comma ∷ []) ∷ (32 ∷ []) ∷ (flat style v ++ more_flat_items style vs)
+
+  -- with the closing brace
+  pub flat_members : Style → Members → List (List ℕ)
+  flat_members style no_members = (ascii.close_brace ∷ []) ∷ []
+  flat_members style (member key v ms) =
+      brace_blank style ++ (key ∷ (ascii.colon ∷ []) ∷ (32 ∷ []) ∷ (flat style v ++ more_flat_members style ms))
+
+  -- the same after a member
+  pub more_flat_members : Style → Members → List (List ℕ)
+  more_flat_members style no_members = brace_blank style ++ (ascii.close_brace ∷ []) ∷ []
+  more_flat_members style (member key v ms) =
+      (ascii.comma ∷ []) ∷ (32 ∷ []) ∷ key ∷ (ascii.colon ∷ []) ∷ (32 ∷ []) ∷ (flat style v ++ more_flat_members style ms)
+
+-- ---- items that fill lines
+
+-- an item that may fill lines
+abbrev pub item_fills : Fill → Value → Bool
+item_fills fill (alone s) = may_fill fill s
+item_fills fill _ = false
+
+-- all may
+abbrev pub items_fill : Fill → Items → Bool
+items_fill fill no_items = true
+items_fill fill (item v vs) = item_fills fill v && items_fill fill vs
 
 -- an item on a flat line, with its comma
-abbrev pub flat_item : Value → Items → List ℕ
-flat_item v vs = flat_line (spelled v) ++ item_comma vs
+abbrev pub flat_item : Style → Value → Items → List ℕ
+flat_item style v vs = flat_line (flat style v) ++ item_comma vs
 
 -- the column after it, from column c on
-abbrev pub item_end : ℕ → Value → Items → ℕ
-item_end c v vs = end_column c (spelled v) (length (item_comma vs))
+abbrev pub item_end : Style → ℕ → Value → Items → ℕ
+item_end style c v vs = end_column c (flat style v) (length (item_comma vs))
 
 -- items after one that ends at column c with its comma: a space, or where the next doesn't fit after that, a line that has indent j
 abbrev pub filled_after : Style → ℕ → ℕ → Items → List ℕ
 filled_after style j c no_items = []
 filled_after style j c (item v vs) =
-    if fits_width style (saturating_add c 1) (length (item_comma vs)) (spelled v)
-    then 32 ∷ (flat_item v vs ++ filled_after style j (item_end (saturating_add c 1) v vs) vs)
-    else new_line j ++ (flat_item v vs ++ filled_after style j (item_end j v vs) vs)
+    if fits_width style (saturating_add c 1) (length (item_comma vs)) (flat style v)
+    then 32 ∷ (flat_item style v vs ++ filled_after style j (item_end style (saturating_add c 1) v vs) vs)
+    else new_line j ++ (flat_item style v vs ++ filled_after style j (item_end style j v vs) vs)
 
 -- items in lines that are filled, at indent j
 abbrev pub filled_lines : Style → ℕ → Items → List ℕ
 filled_lines style j no_items = []
-filled_lines style j (item v vs) = new_line j ++ (flat_item v vs ++ filled_after style j (item_end j v vs) vs)
+filled_lines style j (item v vs) = new_line j ++ (flat_item style v vs ++ filled_after style j (item_end style j v vs) vs)
 
 -- ---- values
 
 -- the column after a key, its colon and a space, in a line with indent j
 abbrev pub after_key : ℕ → List ℕ → ℕ
-after_key j key = end_column j (key ∷ (ascii.colon ∷ []) ∷ []) 0
+after_key j key = end_column j (key ∷ (ascii.colon ∷ []) ∷ (32 ∷ []) ∷ []) 0
 
 -- A value from column c on of a line with indent i, with k columns after it: a comma, or nothing. A list that is empty or fits is one
--- flat line. Else what is in it stands in lines of its own between its brackets, indented; numbers alone fill lines where the style
--- says so.
+-- flat line. Else what is in it stands in lines of its own between its brackets, indented; the items of an array fill lines where
+-- all of them may.
 abbrev mutual
   pub laid_value : Style → ℕ → ℕ → ℕ → Value → List ℕ
   laid_value style i c k (alone s) = s
   laid_value style i c k (array vs) =
-      if is_empty_array vs || fits_width style c k (spelled (array vs))
-      then flat_line (spelled (array vs))
+      if is_empty_array vs || fits_width style c k (flat style (array vs))
+      then flat_line (flat style (array vs))
       else ascii.open_bracket
-      ∷ ((if style.fill && are_numbers vs then filled_lines style (inner style i) vs else item_lines style (inner style i) vs)
+      ∷ ((if items_fill style.fill vs then filled_lines style (inner style i) vs else item_lines style (inner style i) vs)
       ++ (new_line i ++ ascii.close_bracket ∷ []))
   laid_value style i c k (object ms) =
-      if is_empty_object ms || fits_width style c k (spelled (object ms))
-      then flat_line (spelled (object ms))
+      if is_empty_object ms || fits_width style c k (flat style (object ms))
+      then flat_line (flat style (object ms))
       else ascii.open_brace ∷ (member_lines style (inner style i) ms ++ (new_line i ++ ascii.close_brace ∷ []))
 
   -- each item in a line of its own
@@ -120,15 +159,15 @@ abbrev mutual
       ++ (member_comma ms ++ member_lines style j ms)))
 
 -- a text whose lexemes spell a value is laid out by that value, from the beginning of a line with no indent, with the blank lines that
--- are kept
+-- are kept, and spelled as the style says
 abbrev pub LayoutsGoByValues : Type 0
 LayoutsGoByValues =
     (style : Style) (text : List ℕ) (v : Value) → lexemes text ≡ spelled v → depth v ≤ max_depth → IsFormed v
-    → layout_of style text ≡ with_kept_lines style text (laid_value style 0 0 0 v) ++ ascii.line_feed ∷ []
+    → layout_of style text ≡ with_spelling style text (with_kept_lines style text (laid_value style 0 0 0 v))
 
 -- and so is each text that is JSON: its lexemes spell a value
 abbrev pub TextsAreLaidByValues : Type 0
 TextsAreLaidByValues =
     (style : Style) (text : List ℕ) (j : Json) → document text ≡ Some j
     → (v : Value) × (lexemes text ≡ spelled v)
-    × (layout_of style text ≡ with_kept_lines style text (laid_value style 0 0 0 v) ++ ascii.line_feed ∷ [])
+    × (layout_of style text ≡ with_spelling style text (with_kept_lines style text (laid_value style 0 0 0 v)))

@@ -1,5 +1,5 @@
 -- The document of a JSON text, and its layout: what stands on a line is read off the lexemes alone.
-use Rattle.std.specs.Prelude.{ℕ, zero, suc, ℤ, pos, Bool, true, false, ◌&&◌, ◌||◌, ◌==◌, List, [], ◌∷◌, length, drop, map}
+use Rattle.std.specs.Prelude.{ℕ, zero, suc, ℤ, pos, Bool, true, false, not, ◌&&◌, ◌||◌, ◌==◌, List, [], ◌∷◌, length, drop, map}
 use Rattle.std.specs.Prelude.{if◌then◌else◌}
 use Rattle.std.specs.Char.{is_ascii_digit}
 use Rattle.std.specs.List.{fold, list_all}
@@ -9,11 +9,12 @@ use Rattle.json.specs.Word.{head}
 use Rattle.prettyless.specs.Built.{append, enclose, group, nest, softline}
 use Rattle.prettyless.specs.Counted.{text}
 use Rattle.prettyless.specs.Layout.{bytes_in, layout}
-use Rattle.prettyless.specs.Lines.{line_, space}
-use Rattle.prettyless.specs.Lists.{bracketed}
+use Rattle.prettyless.specs.Lines.{line, line_, space}
 use Rattle.prettyless.specs.Options.{options_at}
 use Rattle.prettyless.specs.Tree.{Tree, Nil}
 use Rattle.prettyless.specs.Words.{intersperse}
+use Rattle.json_formatter.specs.declared.style.Fill.{Fill}
+use Rattle.json_formatter.specs.declared.style.Fill.TheVariants as fill
 use Rattle.json_formatter.specs.declared.style.Style.{Style}
 
 -- ---- which lexeme it is
@@ -34,6 +35,12 @@ closes s = is_json_sign ascii.close_brace s || is_json_sign ascii.close_bracket 
 -- a number, where it is a lexeme of a JSON text
 abbrev pub is_number : List ℕ → Bool
 is_number s = (head s == ascii.minus) || is_ascii_digit (head s)
+
+-- it may be an item of an array that fills its lines, where it is a lexeme of a JSON text
+abbrev pub may_fill : Fill → List ℕ → Bool
+may_fill fill.Numbers s = is_number s
+may_fill fill.All s = not (opens s)
+may_fill fill.Nothing s = false
 
 -- a lexeme is next of which `test` holds
 abbrev pub next_is : (List ℕ → Bool) → List (List ℕ) → Bool
@@ -79,10 +86,10 @@ until ends reader ss = many ends reader (length ss) ss
 
 -- ---- the document of a value
 
--- a member of a list: its document, and whether it begins with a number
+-- a member of a list: its document, and whether its first lexeme may fill lines
 pub record Member : Type 0 where
   pub tree : Tree
-  pub is_number : Bool
+  pub fills : Bool
 
 -- a lexeme alone, or nothing where none is left
 abbrev pub lexeme_alone : Reader Tree
@@ -106,43 +113,53 @@ abbrev pub member : Reader Tree → Reader Tree
 member value ss = then_read (then_read (value ss) (with_value value)) with_comma
 
 -- the same, as a member of a list
-abbrev pub list_member : Reader Tree → Reader Member
-list_member value ss = then_read (member value ss) (λ tree. read (record { tree = tree; is_number = next_is is_number ss }))
+abbrev pub list_member : Style → Reader Tree → Reader Member
+list_member style value ss = then_read (member value ss) (λ tree. read (record { tree = tree; fills = next_is (may_fill style.fill) ss }))
 
 -- the documents of members
 abbrev pub trees_of : List Member → List Tree
 trees_of ms = map (λ m. m.tree) ms
 
--- whether each begins with a number
-abbrev pub all_numbers : List Member → Bool
-all_numbers ms = list_all (λ m. m.is_number) ms
+-- whether each may fill lines
+abbrev pub all_may_fill : List Member → Bool
+all_may_fill ms = list_all (λ m. m.fills) ms
 
 -- the members of a list, up to what closes it
-abbrev pub list_members : Reader Tree → Reader (List Member)
-list_members value = until closes (list_member value)
+abbrev pub list_members : Style → Reader Tree → Reader (List Member)
+list_members style value = until closes (list_member style value)
 
--- documents between two others: flat, or in lines that are filled, indented by k columns
-abbrev pub filled_list : Tree → List Tree → Tree → ℤ → Tree
-filled_list before [] after k = append before after
-filled_list before (x ∷ xs) after k =
-    group (enclose before (append (nest k (append line_ (intersperse softline (x ∷ xs)))) line_) after)
+-- the gap between two members where they aren't flat: they fill lines, or each has a line of its own
+abbrev pub gap_in : Bool → Tree
+gap_in true = softline
+gap_in false = line
 
--- they fill lines, or each has a line of its own where they aren't flat
-abbrev pub listed : Bool → Tree → List Tree → Tree → ℤ → Tree
-listed true before xs after k = filled_list before xs after k
-listed false before xs after k = bracketed before xs after k
+-- the gap inside brackets, which on a flat line is a blank, or nothing
+abbrev pub margin : Bool → Tree
+margin true = line
+margin false = line_
 
--- a list between its brackets; numbers alone fill lines where the style says so
+-- documents between two others, with blanks inside or not, in lines that are filled or not: flat, or indented by k columns
+abbrev pub listed : Bool → Bool → Tree → List Tree → Tree → ℤ → Tree
+listed blanks fills before [] after k = append before after
+listed blanks fills before (x ∷ xs) after k =
+    group (enclose before (append (nest k (append (margin blanks) (intersperse (gap_in fills) (x ∷ xs)))) (margin blanks)) after)
+
+-- braces have blanks inside them on a flat line, unless the style is compact
+abbrev pub has_blanks : Style → List ℕ → Bool
+has_blanks style opening = is_json_sign ascii.open_brace opening && not style.compact
+
+-- a list between its brackets; an array fills its lines where all of its items may
 abbrev pub list_document : Style → List ℕ → List Member → Tree → Tree
 list_document style opening ms close =
-    listed (style.fill && all_numbers ms) (text opening) (trees_of ms) close (pos style.indent)
+    listed (has_blanks style opening) (is_json_sign ascii.open_bracket opening && all_may_fill ms) (text opening) (trees_of ms) close
+    (pos style.indent)
 
 -- a list, whose values are read by `value`, or a lexeme alone
 abbrev pub list_or_lexeme : Style → Reader Tree → Reader Tree
 list_or_lexeme style value [] = read Nil []
 list_or_lexeme style value (s ∷ ss) =
     if opens s
-    then then_read (list_members value ss) (λ ms left. then_read (lexeme_alone left) (λ close. read (list_document style s ms close)))
+    then then_read (list_members style value ss) (λ ms left. then_read (lexeme_alone left) (λ close. read (list_document style s ms close)))
     else read (text s) ss
 
 -- the value that comes next; past so many lists inside one another a bracket stands alone

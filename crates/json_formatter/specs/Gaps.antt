@@ -6,13 +6,14 @@ use Rattle.json_lexemes.specs.SpacedLexemes.{Spaced, after_gap, put_together}
 use Rattle.prettyless_model.specs.Column.{saturating_add}
 use Rattle.prettyless_model.specs.Metrics.{text_width}
 use Rattle.json_formatter.specs.ByValue.{new_line}
-use Rattle.json_formatter.specs.Documents.{closes, is_number, is_json_sign, next_is, opens, stops}
-use Rattle.json_formatter.specs.Flat.{is_mark, width_to_close}
+use Rattle.json_formatter.specs.Documents.{closes, is_json_sign, may_fill, next_is, opens, stops}
+use Rattle.json_formatter.specs.Flat.{is_mark, lexeme_columns, width_to_close}
 use Rattle.json_formatter.specs.declared.gaps.Gap.{Gap}
 use Rattle.json_formatter.specs.declared.gaps.Gap.TheVariants as gap
 use Rattle.json_formatter.specs.declared.gaps.Joint.{Joint}
 use Rattle.json_formatter.specs.declared.gaps.Joint.TheVariants as joint
 use Rattle.json_formatter.specs.declared.gaps.State.{State}
+use Rattle.json_formatter.specs.declared.style.Fill.{Fill}
 use Rattle.json_formatter.specs.declared.style.Style.{Style}
 
 -- the bytes of a gap
@@ -39,25 +40,36 @@ comma_after n (s ∷ ss) =
     if opens s then comma_after (n + 1) ss
     else (if closes s then (if nat_le n 1 then next_is (is_json_sign ascii.comma) ss else comma_after (n - 1) ss) else comma_after n ss)
 
--- numbers alone stand in the list that is open, with commas
-abbrev pub only_numbers : List (List ℕ) → Bool
-only_numbers [] = false
-only_numbers (s ∷ ss) = closes s || ((is_number s || is_json_sign ascii.comma s) && only_numbers ss)
+-- nothing but items that may fill lines stands in the list that is open, with commas
+abbrev pub all_fill : Fill → List (List ℕ) → Bool
+all_fill fill [] = false
+all_fill fill (s ∷ ss) = closes s || ((may_fill fill s || is_json_sign ascii.comma s) && all_fill fill ss)
 
--- the column after a list whose bracket is at column c, with a comma after it; one that is not closed goes on for ever
-abbrev pub list_end : ℕ → Option ℕ → Bool → ℕ
-list_end c None comma = 2 ^ 64 - 1
-list_end c (Some w) comma = saturating_add c (1 + w + comma_column comma)
+-- the column after a list whose bracket is at column c and takes k columns, with a comma after it; one that is not closed goes on for ever
+abbrev pub list_end : ℕ → ℕ → Option ℕ → Bool → ℕ
+list_end c k None comma = 2 ^ 64 - 1
+list_end c k (Some w) comma = saturating_add c (k + w + comma_column comma)
 
--- the list that is opened at column c stays within the width
-abbrev pub list_fits : Style → ℕ → List (List ℕ) → Bool
-list_fits style c ss = nat_le (list_end c (width_to_close 1 ss) (comma_after 1 ss)) style.width
+-- the list that is opened with s at column c stays within the width
+abbrev pub list_fits : Style → ℕ → List ℕ → List (List ℕ) → Bool
+list_fits style c s ss =
+    nat_le (list_end c (lexeme_columns style.compact s ss) (width_to_close style.compact 1 ss) (comma_after 1 ss)) style.width
 
 -- ---- on one line
 
-abbrev pub flat_gap : Joint → Gap
-flat_gap joint.Space = gap.Space
-flat_gap _ = gap.Nothing
+-- a space, or nothing
+abbrev pub space_if : Bool → Gap
+space_if b = if b then gap.Space else gap.Nothing
+
+-- the gap before a lexeme: unless the style is compact, blanks stand inside the braces of an object that has members
+abbrev pub flat_gap : Style → Joint → List ℕ → Gap
+flat_gap style joint.Space s = gap.Space
+flat_gap style joint.Brace s = space_if (not (closes s) && not style.compact)
+flat_gap style _ s = space_if (is_json_sign ascii.close_brace s && not style.compact)
+
+-- what joins the next lexeme to one of a line
+abbrev pub flat_joint : List ℕ → Joint
+flat_joint s = if is_mark s then joint.Space else (if is_json_sign ascii.open_brace s then joint.Brace else joint.Nothing)
 
 -- how many lists are open after a lexeme
 abbrev pub open_after : ℕ → List ℕ → ℕ
@@ -65,7 +77,7 @@ open_after n s = if opens s then saturating_add n 1 else (if closes s then n - 1
 
 -- the state after a lexeme of a list on one line
 abbrev pub flat_after : State → List ℕ → State
-flat_after st s = record st { flat = open_after st.flat s; joint = if is_mark s then joint.Space else joint.Nothing }
+flat_after st s = record st { flat = open_after st.flat s; joint = flat_joint s }
 
 -- ---- in lines of their own
 
@@ -85,6 +97,7 @@ number_fits style c s comma =
 -- the gap before a value or a key
 abbrev pub value_gap : Style → State → Joint → List ℕ → Bool → Gap
 value_gap style st joint.Nothing s comma = gap.Nothing
+value_gap style st joint.Brace s comma = gap.Nothing
 value_gap style st joint.Space s comma = gap.Space
 value_gap style st joint.Line s comma = gap.Line (indent_at style st.depth)
 value_gap style st joint.Fill s comma =
@@ -97,12 +110,17 @@ gap_end c gap.Space = saturating_add c 1
 gap_end c (gap.Line i) = i
 gap_end c (gap.BlankLine i) = i
 
--- after the bracket that opens a list at this column: it is laid out on one line if it fits or is empty, and else in lines of their own
-abbrev pub open_at : Style → State → ℕ → List (List ℕ) → State
-open_at style st c ss =
-    if stops closes ss || list_fits style c ss
-    then record st { flat = 1; column = c; joint = joint.Nothing }
-    else record st { depth = saturating_add st.depth 1; column = c; fills = style.fill && only_numbers ss; joint = joint.Line }
+-- after the bracket s that opens a list at this column: it is laid out on one line if it fits or is empty, and else in lines of their own
+abbrev pub open_at : Style → State → ℕ → List ℕ → List (List ℕ) → State
+open_at style st c s ss =
+    if stops closes ss || list_fits style c s ss
+    then record st { flat = 1; column = c; joint = flat_joint s }
+    else record st {
+      depth = saturating_add st.depth 1;
+      column = c;
+      fills = is_json_sign ascii.open_bracket s && all_fill style.fill ss;
+      joint = joint.Line;
+    }
 
 -- the column after a word or a key at this column; it is not counted where a comma comes next, and then a new line
 abbrev pub word_end : Bool → ℕ → List ℕ → List (List ℕ) → ℕ
@@ -111,7 +129,7 @@ word_end fills c s ss = if not fills && next_is (is_json_sign ascii.comma) ss th
 -- after the first lexeme of a value, or a key, at this column
 abbrev pub value_at : Style → State → ℕ → List ℕ → List (List ℕ) → State
 value_at style st c s ss =
-    if opens s then open_at style st c ss
+    if opens s then open_at style st c s ss
     else record st { column = word_end st.fills c s ss; joint = joint.Nothing }
 
 -- ---- a lexeme
@@ -119,7 +137,7 @@ value_at style st c s ss =
 -- the gap before a lexeme, after which others come
 abbrev pub gap_before : Style → State → List ℕ → List (List ℕ) → Gap
 gap_before style st s ss =
-    if nat_le 1 st.flat then flat_gap st.joint
+    if nat_le 1 st.flat then flat_gap style st.joint s
     else (if is_mark s then gap.Nothing
     else (if closes s then gap.Line (indent_at style (st.depth - 1)) else value_gap style st st.joint s
     (next_is (is_json_sign ascii.comma) ss)))

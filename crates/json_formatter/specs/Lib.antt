@@ -1,5 +1,6 @@
 pub mod Ahead
 pub mod BlankLines
+pub mod Blanks
 pub mod ByValue
 pub mod Documents
 pub mod Flat
@@ -8,3 +9,4 @@ pub mod Window
 pub mod Gaps
 pub mod Kept
 pub mod Outputs
+pub mod Spelling

@@ -1,5 +1,5 @@
 -- What the scanner ahead of a reader knows of the lists that it has seen opened.
-use Rattle.std.specs.Prelude.{◌≡◌, ℕ, ◌+◌, ◌-◌, ◌<◌, ◌≤◌, not, nat_le, if◌then◌else◌, Option, Some, None, MatchOption, IfSome}
+use Rattle.std.specs.Prelude.{◌≡◌, ℕ, ◌+◌, ◌-◌, ◌<◌, ◌≤◌, Bool, not, nat_le, if◌then◌else◌, Option, Some, None, MatchOption, IfSome}
 use Rattle.std.specs.Prelude.{List, [], ◌∷◌, length, drop, slice_index_or, slice_set}
 use Rattle.json.specs.Ascii.{comma}
 use Rattle.json_formatter.specs.Documents.{closes, is_json_sign, next_is, opens}
@@ -22,16 +22,16 @@ comma_columns ss = if next_is (is_json_sign comma) ss then 1 else 0
 
 -- Where the list is closed of which so many are open, one inside the other: its columns from here on, with what closes it and the comma
 -- after that, if one comes next; None where it is not closed.
-abbrev pub width_with_comma : ℕ → List (List ℕ) → Option ℕ
-width_with_comma n [] = None
-width_with_comma n (s ∷ ss) =
+abbrev pub width_with_comma : Bool → ℕ → List (List ℕ) → Option ℕ
+width_with_comma compact n [] = None
+width_with_comma compact n (s ∷ ss) =
     if opens s
-    then wider (lexeme_columns s) (width_with_comma (n + 1) ss)
+    then wider (lexeme_columns compact s ss) (width_with_comma compact (n + 1) ss)
     else (if not (closes s)
-    then wider (lexeme_columns s) (width_with_comma n ss)
+    then wider (lexeme_columns compact s ss) (width_with_comma compact n ss)
     else (if nat_le n 1
-    then Some (lexeme_columns s + comma_columns ss)
-    else wider (lexeme_columns s) (width_with_comma (n - 1) ss)))
+    then Some (lexeme_columns compact s ss + comma_columns ss)
+    else wider (lexeme_columns compact s ss) (width_with_comma compact (n - 1) ss)))
 
 -- a list of which nothing is known
 abbrev pub no_list : Opened
@@ -41,23 +41,24 @@ abbrev pub list_at : List Opened → ℕ → Opened
 list_at lists i = slice_index_or lists i no_list
 
 -- From a total of columns on come these lexemes; a list is open there, and n - 1 lists in it.
-pub record IsUnclosed (rest : List (List ℕ)) (start total n : ℕ) (left : List (List ℕ)) : Type 0 where
+pub record IsUnclosed (compact : Bool) (rest : List (List ℕ)) (start total n : ℕ) (left : List (List ℕ)) : Type 0 where
   pub begun : start ≤ total
-  pub width : width_with_comma 1 rest ≡ wider (total - start) (width_with_comma n left)
+  pub width : width_with_comma compact 1 rest ≡ wider (total - start) (width_with_comma compact n left)
 
 -- The scanner has seen these lists opened, has these of them still to see closed, the innermost last, and has passed so many columns.
 pub record IsScanned
-    (rests : List (List (List ℕ))) (lists : List Opened) (unclosed : List ℕ) (total : ℕ) (left : List (List ℕ)) : Type 0 where
+    (compact : Bool) (rests : List (List (List ℕ))) (lists : List Opened) (unclosed : List ℕ) (total : ℕ) (left : List (List ℕ))
+    : Type 0 where
   -- The lists that it has not seen opened.
   pub unseen : rests_of left ≡ drop (length lists) rests
   -- It knows the width of those that it has seen closed.
-  pub known : (i w : ℕ) → i < length lists → (list_at lists i).width ≡ Some w → width_with_comma 1 (rest_at rests i) ≡ Some w
+  pub known : (i w : ℕ) → i < length lists → (list_at lists i).width ≡ Some w → width_with_comma compact 1 (rest_at rests i) ≡ Some w
   -- It has the others still to see closed.
   pub unknown : (i : ℕ) → i < length lists → (list_at lists i).width ≡ None
       → (p : ℕ) × (p < length unclosed) × (slice_index_or unclosed p 0 ≡ i)
   pub within : (p : ℕ) → p < length unclosed → slice_index_or unclosed p 0 < length lists
   pub inner : (p : ℕ) → p < length unclosed
-      → IsUnclosed (rest_at rests (slice_index_or unclosed p 0)) (list_at lists (slice_index_or unclosed p 0)).start total
+      → IsUnclosed compact (rest_at rests (slice_index_or unclosed p 0)) (list_at lists (slice_index_or unclosed p 0)).start total
       (length unclosed - p) left
 
 -- where this list is closed at this total, with so many columns after it, its width is known
@@ -78,18 +79,18 @@ AreWithin lists unclosed total =
 
 -- the same of a scanner
 abbrev pub Knows : Scanner → List (List (List ℕ)) → Type 0
-Knows s rests = IsScanned rests s.lists.items s.unclosed.items s.total s.lexemes
+Knows s rests = IsScanned s.compact rests s.lists.items s.unclosed.items s.total s.lexemes
 
 -- what it knows is right
 abbrev pub IsRight : Scanner → Type 0
 IsRight s = (rests : List (List (List ℕ))) × Knows s rests
 
 -- the width of a list, if it is closed and takes at most so many columns
-abbrev pub IsWidthUpTo : ℕ → List (List ℕ) → Option ℕ → Type 0
-IsWidthUpTo most rest width =
+abbrev pub IsWidthUpTo : Bool → ℕ → List (List ℕ) → Option ℕ → Type 0
+IsWidthUpTo compact most rest width =
     MatchOption width
-    ((w : ℕ) → width_with_comma 1 rest ≡ Some w → most < w)
-    (λ w. (width_with_comma 1 rest ≡ Some w) × (w ≤ most))
+    ((w : ℕ) → width_with_comma compact 1 rest ≡ Some w → most < w)
+    (λ w. (width_with_comma compact 1 rest ≡ Some w) × (w ≤ most))
 
 -- The reader has these lexemes left, and has opened so many of the scanner's lists; the one of index `here` it has just opened.
 pub record IsWindow (left : List (List ℕ)) (scanner : Scanner) (passed : ℕ) (here : Option ℕ) : Type 0 where

@@ -2,9 +2,9 @@ ghost use Rattle.std.specs.Prelude.{◌≡◌, ℕ, List, [], ◌∷◌, IfSome,
 ghost use Rattle.json.specs.Ascii.{comma};
 ghost use Rattle.json_lexemes.specs.Lexemes.{lexemes};
 ghost use Rattle.json_lexemes.specs.View.{text_of, IsNamed};
-ghost use Rattle.json_formatter.specs.Documents.{is_json_sign, next_is};
+ghost use Rattle.json_formatter.specs.Documents.{closes, is_json_sign, next_is, stops};
 
-use crate::kind::is_comma;
+use crate::kind::{closes, is_comma};
 use json_lexemes::{Lexeme, Lexer};
 use std::marker::Model;
 
@@ -69,6 +69,17 @@ impl<'a> Ahead<'a> {
             self.next = self.lexer.next();
         }
         taken
+    }
+
+    /// Whether nothing is left of the list that is open here but what closes it.
+    #[inline]
+    pub(crate) fn is_at_end(&self) -> bool
+        ensures { result ≡ stops closes self.now }
+    {
+        match self.next {
+            Some(lexeme) => closes(lexeme),
+            None => true,
+        }
     }
 
     /// Whether a comma comes next.

@@ -9,6 +9,8 @@ use std::io;
 pub enum FormatError {
     /// The text is no JSON, or its lists are more than 100,000 deep in one another.
     NotJson,
+    /// The text is JSON, and its lists are deeper in one another than the style allows.
+    TooDeep,
     /// Memory was refused. Nothing was written.
     Memory(AllocError),
     /// The layout could not be written to its end. A beginning was written.

@@ -4,16 +4,18 @@ ghost use Rattle.json_lexemes.specs.Lexemes.{lexemes};
 ghost use Rattle.json_lexemes.specs.View.{text_of, IsNamed};
 ghost use Rattle.json.specs.Ascii.{comma};
 ghost use Rattle.json_formatter.specs.Documents.{closes, is_json_sign, next_is, stops};
-ghost use Rattle.json_formatter.specs.Gaps.{close_after, flat_after, flat_gap, gap_before, gap_bytes, gap_end, indent_at, list_fits};
-ghost use Rattle.json_formatter.specs.Gaps.{mark_after, number_fits, only_numbers, open_at, start_state, state_after, value_at};
+ghost use Rattle.json_formatter.specs.Gaps.{all_fill, close_after, flat_after, flat_gap, flat_joint, gap_before, gap_bytes, gap_end};
+ghost use Rattle.json_formatter.specs.Gaps.{indent_at, list_fits, mark_after, number_fits, open_at, start_state, state_after};
+ghost use Rattle.json_formatter.specs.Gaps.{value_at};
 ghost use Rattle.json_formatter.specs.Gaps.{value_gap, word_end};
-ghost use Rattle.json_formatter.specs.Kept.{kept_of, laid_left};
+ghost use Rattle.json_formatter.specs.Kept.{kept_of, laid_left, spelled_bytes};
 
 use crate::ahead::Ahead;
-use crate::columns::text_columns;
+use crate::columns::{lexeme_columns, text_columns};
 use crate::kept::Kept;
-use crate::kind::{closes, is_comma, is_number, opens};
-use crate::style::Style;
+use crate::kind::{closes, is_comma, may_fill, opens};
+use crate::spelling::{Spelled, Spelling};
+use crate::style::{Fill, Style};
 use crate::window::Lexemes;
 use json_lexemes::Lexeme;
 use std::alloc::Global;
@@ -35,6 +37,8 @@ pub(crate) enum Gap {
 enum Joint {
     /// Nothing: it comes right after a bracket, or is the first one.
     Nothing,
+    /// A blank in a style that isn't compact, unless it closes the object whose brace it comes right after.
+    Brace,
     /// A space.
     Space,
     /// A new line.
@@ -75,15 +79,15 @@ fn indent_at(style: Style, depth: usize) -> usize
     depth.saturating_mul(style.indent as usize)
 }
 
-// Whether numbers alone, with commas, stand in the list that is open here.
-fn only_numbers(mut lexemes: Ahead<'_>) -> bool
-    ensures { result ≡ only_numbers lexemes.entry }
+// Whether nothing but items that may fill lines, with commas, stands in the list that is open here.
+fn all_fill(fill: Fill, mut lexemes: Ahead<'_>) -> bool
+    ensures { result ≡ all_fill fill lexemes.entry }
 {
     while let Some(lexeme) = lexemes.next() {
         if closes(lexeme) {
             return true;
         }
-        if !is_number(lexeme) && !is_comma(lexeme) {
+        if !may_fill(fill, lexeme) && !is_comma(lexeme) {
             return false;
         }
     }
@@ -92,18 +96,21 @@ fn only_numbers(mut lexemes: Ahead<'_>) -> bool
 
 // Whether the list that is opened at a column stays within the width, with a comma that comes after it.
 #[inline(always)]
-fn list_fits(lexemes: &mut Lexemes<'_>, style: Style, column: usize) -> bool
+fn list_fits(lexemes: &mut Lexemes<'_>, style: Style, column: usize, opening: Lexeme<'_>) -> bool
+    requires { IsNamed opening }
     ensures same { lexemes.new ≡ lexemes.old }
-    ensures fits { result ≡ list_fits style column lexemes.old }
+    ensures fits { result ≡ list_fits style column (text_of opening.entry) lexemes.old }
 {
     if style.width == usize::MAX {
         return true;
     }
-    if column >= style.width {
+    let bracket = lexeme_columns(style.compact, opening, &lexemes.again());
+    let begun = column.saturating_add(bracket);
+    if begun > style.width {
         return false;
     }
     lexemes
-        .columns_with_comma(style.width - column - 1)
+        .columns_with_comma(style.compact, style.width - begun)
         .is_some()
 }
 
@@ -131,12 +138,29 @@ fn number_fits(style: Style, column: usize, lexeme: Lexeme<'_>, comma: bool) -> 
 
 // The gap before a lexeme of a list on one line.
 #[inline(always)]
-fn flat_gap(joint: Joint) -> Gap
-    ensures { result ≡ flat_gap joint }
+fn flat_gap(style: Style, joint: Joint, lexeme: Lexeme<'_>) -> Gap
+    requires { IsNamed lexeme }
+    ensures { result ≡ flat_gap style joint (text_of lexeme.entry) }
 {
     match joint {
         Joint::Space => Gap::Space,
+        Joint::Brace if !style.compact && !closes(lexeme) => Gap::Space,
+        Joint::Brace => Gap::Nothing,
+        _ if !style.compact && matches!(lexeme, Lexeme::CloseObject) => Gap::Space,
         _ => Gap::Nothing,
+    }
+}
+
+// What joins the next lexeme to one of a list on one line.
+#[inline(always)]
+fn flat_joint(lexeme: Lexeme<'_>) -> Joint
+    requires { IsNamed lexeme }
+    ensures { result ≡ flat_joint (text_of lexeme.entry) }
+{
+    match lexeme {
+        Lexeme::Comma | Lexeme::Colon => Joint::Space,
+        Lexeme::OpenObject => Joint::Brace,
+        _ => Joint::Nothing,
     }
 }
 
@@ -159,12 +183,11 @@ impl State {
         requires { IsNamed lexeme }
         ensures { self.new ≡ flat_after self.old (text_of lexeme.entry) }
     {
-        self.joint = Joint::Nothing;
+        self.joint = flat_joint(lexeme);
         match lexeme {
-            Lexeme::Comma | Lexeme::Colon => self.joint = Joint::Space,
             Lexeme::OpenObject | Lexeme::OpenArray => self.flat = self.flat.saturating_add(1),
             Lexeme::CloseObject | Lexeme::CloseArray => self.flat = self.flat.saturating_sub(1),
-            Lexeme::String(_) | Lexeme::Word(_) => {}
+            _ => {}
         }
     }
 
@@ -193,7 +216,7 @@ impl State {
         ensures { result ≡ value_gap style self.now self.now.joint (text_of lexeme.entry) (next_is (is_json_sign comma) lexemes.now) }
     {
         match self.joint {
-            Joint::Nothing => Gap::Nothing,
+            Joint::Nothing | Joint::Brace => Gap::Nothing,
             Joint::Space => Gap::Space,
             Joint::Fill if number_fits(style, self.column, lexeme, lexemes.next_is_comma()) => {
                 Gap::Space
@@ -204,18 +227,25 @@ impl State {
 
     // Goes past the bracket that opens a list at a column.
     #[inline(always)]
-    fn open_at(&mut self, style: Style, column: usize, lexemes: &mut Lexemes<'_>)
+    fn open_at(
+        &mut self,
+        style: Style,
+        column: usize,
+        opening: Lexeme<'_>,
+        lexemes: &mut Lexemes<'_>,
+    )
+        requires { IsNamed opening }
         ensures same { lexemes.new ≡ lexemes.old }
-        ensures state { self.new ≡ open_at style self.old column lexemes.old }
+        ensures state { self.new ≡ open_at style self.old column (text_of opening.entry) lexemes.old }
     {
         self.column = column;
-        if is_empty(lexemes) || list_fits(lexemes, style, column) {
+        if is_empty(lexemes) || list_fits(lexemes, style, column, opening) {
             self.flat = 1;
-            self.joint = Joint::Nothing;
+            self.joint = flat_joint(opening);
             return;
         }
         self.depth = self.depth.saturating_add(1);
-        self.fills = style.fill && only_numbers(lexemes.again());
+        self.fills = matches!(opening, Lexeme::OpenArray) && all_fill(style.fill, lexemes.again());
         self.joint = Joint::Line;
     }
 
@@ -245,7 +275,7 @@ impl State {
         ensures state { self.new ≡ value_at style self.old column (text_of lexeme.entry) lexemes.old }
     {
         if opens(lexeme) {
-            self.open_at(style, column, lexemes);
+            self.open_at(style, column, lexeme, lexemes);
         } else {
             self.column = self.word_end(column, lexeme, lexemes);
             self.joint = Joint::Nothing;
@@ -275,7 +305,7 @@ impl State {
         ensures state { self.new ≡ state_after style self.old (text_of lexeme.entry) lexemes.old }
     {
         if self.flat > 0 {
-            let gap = flat_gap(self.joint);
+            let gap = flat_gap(style, self.joint, lexeme);
             self.pass_flat(lexeme);
             return gap;
         }
@@ -310,6 +340,7 @@ pub(crate) struct Layout<'a> {
     state: State,
     /// Where it stands in the text, if blank lines are kept.
     kept: Option<Kept<'a>>,
+    spelling: Spelling,
 }
 
 impl<'a> Model for Layout<'a> {
@@ -318,18 +349,18 @@ impl<'a> Model for Layout<'a> {
 
     ghost Value = { List ℕ };
 
-    ghost view = { λ a. laid_left a.style a.state a.kept a.lexemes };
+    ghost view = { λ a. laid_left a.style a.state a.kept a.spelling a.lexemes };
 
     ghost invariant = { λ a. ⊤ };
 }
 
 impl<'a> Layout<'a> {
-    /// The lexemes of this text, laid out in this style.
-    pub(crate) fn new(alloc: Global, text: &'a str, style: Style) -> Layout<'a>
-        ensures { result ≡ laid_left style start_state (kept_of style text.now) (lexemes text.now) }
+    /// The lexemes of this text, laid out in this style, and spelled so.
+    pub(crate) fn new(alloc: Global, text: &'a str, style: Style, spelling: Spelling) -> Layout<'a>
+        ensures { result ≡ laid_left style start_state (kept_of style text.now) spelling (lexemes text.now) }
     {
         Layout {
-            lexemes: Lexemes::new(alloc, text),
+            lexemes: Lexemes::new(alloc, text, style.compact),
             style,
             state: START,
             kept: if style.blank_lines {
@@ -337,21 +368,22 @@ impl<'a> Layout<'a> {
             } else {
                 None
             },
+            spelling,
         }
     }
 
     /// The next lexeme, with the gap before it, or `None` where none is left.
     #[inline(always)]
-    pub(crate) fn next(&mut self) -> Option<(Gap, Lexeme<'a>)>
+    pub(crate) fn next(&mut self) -> Option<(Spelled, Lexeme<'a>)>
         ensures next { MatchOption result ((self.old ≡ []) × (self.new ≡ []))
-            (λ next. self.old ≡ gap_bytes next.0 ++ (text_of next.1 ++ self.new)) }
+            (λ next. self.old ≡ spelled_bytes next.0 ++ (text_of next.1 ++ self.new)) }
         ensures fewer { IfSome result (λ next. length self.new < length self.old) }
     {
         let lexeme = self.lexemes.next()?;
         let gap = self.state.step(self.style, lexeme, &mut self.lexemes);
         match &mut self.kept {
-            Some(kept) => Some((kept.gap(gap, lexeme), lexeme)),
-            None => Some((gap, lexeme)),
+            Some(kept) => Some((self.spelling.spell(kept.gap(gap, lexeme)), lexeme)),
+            None => Some((self.spelling.spell(gap), lexeme)),
         }
     }
 }

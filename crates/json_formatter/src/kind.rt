@@ -1,8 +1,9 @@
 ghost use Rattle.std.specs.Prelude.{◌≡◌};
 ghost use Rattle.json.specs.Ascii.{comma};
 ghost use Rattle.json_lexemes.specs.View.{text_of, IsNamed};
-ghost use Rattle.json_formatter.specs.Documents.{closes, is_number, is_json_sign, opens};
+ghost use Rattle.json_formatter.specs.Documents.{closes, is_number, is_json_sign, may_fill, opens};
 
+use crate::style::Fill;
 use json_lexemes::Lexeme;
 
 /// Whether the lexeme opens a list, which is an object or an array.
@@ -37,5 +38,17 @@ pub(crate) fn is_number(lexeme: Lexeme<'_>) -> bool
     match lexeme {
         Lexeme::Word(word) => matches!(word.as_bytes(), [b'-' | b'0'..=b'9', ..]),
         _ => false,
+    }
+}
+
+/// Whether the lexeme may be an item of an array that fills its lines, where it is a lexeme of a JSON text.
+pub(crate) fn may_fill(fill: Fill, lexeme: Lexeme<'_>) -> bool
+    requires { IsNamed lexeme }
+    ensures { result ≡ may_fill fill (text_of lexeme.entry) }
+{
+    match fill {
+        Fill::Numbers => is_number(lexeme),
+        Fill::All => !opens(lexeme),
+        Fill::Nothing => false,
     }
 }

@@ -1,54 +1,68 @@
-ghost use Rattle.std.specs.Prelude.{◌≡◌, IfOk, IfErr, IsSome, OnErr, OnOk};
-ghost use Rattle.json_validity.specs.Document.{document};
+ghost use Rattle.std.specs.Prelude.{◌≡◌, IfOk, IfErr, OnErr, OnOk};
+ghost use Rattle.json_validity.specs.Document.{IsJsonWithin};
 ghost use Rattle.std.specs.String.{string_bytes};
 ghost use Rattle.json_formatter.specs.BlankLines.{layout_of};
-ghost use Rattle.json_formatter.specs.Formats.{IsFormatted, IsRefused, Formats};
+ghost use Rattle.json_formatter.specs.Formats.{depth_of, IsFormatted, IsRefused, Formats};
 ghost use Rattle.prettyless_sink.specs.Sink.{Accepts, Refuses};
 
 use crate::error::FormatError;
 use crate::gaps::Layout;
 use crate::output::{push_layout, write_layout};
 use crate::sink::render_layout;
+use crate::spelling::Spelling;
 use crate::style::Style;
-use json_validity::is_json;
+use json_validity::{MAX_DEPTH, is_json, is_json_within};
 use prettyless_sink::render::Render;
 use std::alloc::Global;
 use std::io::Write;
 
-// Makes sure that a text is JSON.
-fn check_json(alloc: Global, text: &str) -> Result<(), FormatError>
-    ensures ok { OnOk result (IsSome (document text.now)) }
-    ensures err { IfErr result (IsRefused text.now) }
+// How deep lists may be in one another in a style.
+fn depth_of(style: Style) -> usize
+    ensures { result ≡ depth_of style }
 {
-    if is_json(alloc, text)? {
+    style.depth.min(MAX_DEPTH)
+}
+
+// Makes sure that a text is JSON, and no deeper than the style allows.
+fn check_json(alloc: Global, text: &str, style: Style) -> Result<(), FormatError>
+    ensures ok { OnOk result (IsJsonWithin (depth_of style) text.now) }
+    ensures err { IfErr result (IsRefused style text.now) }
+{
+    if is_json_within(alloc, text, depth_of(style))? {
         Ok(())
+    } else if is_json(alloc, text)? {
+        Err(FormatError::TooDeep)
     } else {
         Err(FormatError::NotJson)
     }
 }
 
-/// The layout of a JSON text in this style, and a line feed. It is the same value, and has the same lexemes. Laid out again
+/// The layout of a JSON text in this style, and a line end. It is the same value, and has the same lexemes. Laid out again
 /// in this style, it stays as it is.
 ///
-/// `NotJson` only where the text is no JSON. `Memory` where memory is refused, whatever the text is.
+/// `NotJson` only where the text is no JSON, and `TooDeep` only where it is JSON and deeper than the style allows. `Memory` where
+/// memory is refused, whatever the text is.
 ///
 /// ```
 /// formatted(alloc, "[1,2]", Style::default())? // "[1, 2]\n"
 /// ```
 pub fn formatted(alloc: Global, text: &str, style: Style) -> Result<String, FormatError>
     ensures ok { IfOk result (λ layout. IsFormatted style text.now (string_bytes layout)) }
-    ensures err { IfErr result (IsRefused text.now) }
+    ensures err { IfErr result (IsRefused style text.now) }
 {
-    check_json(alloc, text)?;
+    check_json(alloc, text, style)?;
     let mut layout = String::new(alloc);
-    push_layout(&mut layout, &mut Layout::new(alloc, text, style))?;
+    let spelling = Spelling::of(style, text);
+    let mut lexemes = Layout::new(alloc, text, style, spelling);
+    push_layout(&mut layout, &mut lexemes, spelling.line_end())?;
     Ok(layout)
 }
 
-/// Writes the layout of a JSON text in this style, and a line feed, while the text is laid out.
+/// Writes the layout of a JSON text in this style, and a line end, while the text is laid out.
 ///
-/// `NotJson` only where the text is no JSON, and `Memory` where memory is refused, whatever the text is: then nothing was
-/// written. `Write` where the writer fails: then a beginning was written, and not all.
+/// `NotJson` only where the text is no JSON, `TooDeep` only where it is JSON and deeper than the style allows, and `Memory` where
+/// memory is refused, whatever the text is: then nothing was written. `Write` where the writer fails: then a beginning was
+/// written, and not all.
 ///
 /// ```
 /// format(alloc, "[1,2]", Style::default(), &mut bytes)?; // appends "[1, 2]\n" to `bytes`, a `Vec<u8>`
@@ -61,14 +75,17 @@ pub fn format<W: Write>(
 ) -> Result<(), FormatError>
     ensures { Formats style text.now (W.contents writer.old) (W.contents writer.new) result }
 {
-    check_json(alloc, text)?;
-    write_layout(writer, &mut Layout::new(alloc, text, style))
+    check_json(alloc, text, style)?;
+    let spelling = Spelling::of(style, text);
+    let mut lexemes = Layout::new(alloc, text, style, spelling);
+    write_layout(writer, &mut lexemes, spelling.line_end())
 }
 
-/// Puts the layout of a JSON text in this style, and a line feed, into a sink, while the text is laid out.
+/// Puts the layout of a JSON text in this style, and a line end, into a sink, while the text is laid out.
 ///
-/// `NotJson` only where the text is no JSON, and `Memory` where memory is refused, whatever the text is: then the sink is as
-/// it was. Where the sink fails it got a beginning and no piece after that, and the inner answer is its error.
+/// `NotJson` only where the text is no JSON, `TooDeep` only where it is JSON and deeper than the style allows, and `Memory` where
+/// memory is refused, whatever the text is: then the sink is as it was. Where the sink fails it got a beginning and no piece
+/// after that, and the inner answer is its error.
 ///
 /// ```
 /// render(alloc, "[1,2]", Style::default(), &mut Area::new(&mut out, 1000))? // `Ok`: `out` begins with "[1, 2]\n"
@@ -85,9 +102,11 @@ pub fn render<S: Render>(
         (Accepts (S.bytes sink.old) (S.bytes sink.new) (layout_of style text.now) (S.failures sink.old) (S.failures sink.new))) }
     ensures err { IfOk result (λ answer. OnErr answer
         (Refuses (S.bytes sink.old) (S.bytes sink.new) (layout_of style text.now) (S.failures sink.old) (S.failures sink.new))) }
-    ensures refused { IfErr result (IsRefused text.now) }
+    ensures refused { IfErr result (IsRefused style text.now) }
     ensures untouched { OnErr result (sink.new ≡ sink.old) }
 {
-    check_json(alloc, text)?;
-    Ok(render_layout(sink, &mut Layout::new(alloc, text, style)))
+    check_json(alloc, text, style)?;
+    let spelling = Spelling::of(style, text);
+    let mut lexemes = Layout::new(alloc, text, style, spelling);
+    Ok(render_layout(sink, &mut lexemes, spelling.line_end()))
 }

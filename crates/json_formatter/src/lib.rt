@@ -2,6 +2,7 @@
 #![tactic(auto)]
 
 mod ahead;
+mod blanks;
 mod columns;
 mod error;
 mod gaps;
@@ -12,10 +13,11 @@ mod layout;
 mod output;
 mod scanner;
 mod sink;
+mod spelling;
 mod style;
 mod window;
 
 pub use error::FormatError;
 pub use laws::law_layout;
 pub use layout::{format, formatted, render};
-pub use style::Style;
+pub use style::{Fill, LineEnd, Style};

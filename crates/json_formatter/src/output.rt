@@ -1,5 +1,5 @@
 //! Where a layout goes: into a text, or to a writer.
-ghost use Rattle.std.specs.Prelude.{◌≡◌, ℕ, ◌+◌, ◌<◌, ◌≤◌, List, ◌++◌, ◌∷◌, [], length, OnOk, OnErr, IfErr, IfSome, MatchOption};
+ghost use Rattle.std.specs.Prelude.{◌≡◌, ℕ, ◌+◌, ◌<◌, ◌≤◌, List, ◌++◌, ◌∷◌, [], length, replicate, OnOk, OnErr, IfErr, IfSome, MatchOption};
 ghost use Rattle.std.specs.Bool.{MatchBool};
 ghost use Rattle.arrayvec.specs.ArrayString.{array_string_len};
 ghost use Rattle.std.specs.String.{string_bytes};
@@ -8,15 +8,18 @@ ghost use Rattle.json_lexemes.specs.View.{text_of};
 ghost use Rattle.std.specs.Io.KnownBytes.{Appends};
 ghost use Rattle.prettyless_model.specs.Spaces.{spaces};
 ghost use Rattle.prettyless_sink.specs.Sink.{AppendsProperBeginning};
+ghost use Rattle.json_formatter.specs.Blanks.{blank_code};
 ghost use Rattle.json_formatter.specs.Formats.{IsWriting};
 ghost use Rattle.json_formatter.specs.Gaps.{gap_bytes};
+ghost use Rattle.json_formatter.specs.Kept.{spelled_bytes};
 ghost use Rattle.json_formatter.specs.Outputs.{WritesHeld, WriterFailed};
 
+use crate::blanks::{Blank, MOST, some_blanks};
 use crate::error::FormatError;
 use crate::gaps::{Gap, Layout};
+use crate::spelling::Spelled;
 use arrayvec::ArrayString;
 use json_lexemes::Lexeme;
-use prettyless_model::spaces::some_spaces;
 use prettyless_sink::io_write::write_whole;
 use std::alloc::AllocError;
 use std::io::Write;
@@ -84,21 +87,24 @@ fn put<W: Write>(
     }
 }
 
-// Puts so many spaces.
+// Puts so many blanks.
 #[inline(always)]
-fn put_spaces<W: Write>(
+fn put_blanks<W: Write>(
     writer: &mut W,
     held: &mut ArrayString<HELD>,
+    blank: Blank,
     count: usize,
 ) -> Result<(), FormatError>
-    ensures ok { OnOk result (WritesHeld (W.contents writer.old) (W.contents writer.new) held.old.bytes held.new.bytes (spaces count)) }
-    ensures beginning { OnErr result (WriterFailed (W.contents writer.old) (W.contents writer.new) held.old.bytes (spaces count)) }
+    ensures ok { OnOk result (WritesHeld (W.contents writer.old) (W.contents writer.new) held.old.bytes held.new.bytes
+        (replicate count (blank_code blank))) }
+    ensures beginning { OnErr result (WriterFailed (W.contents writer.old) (W.contents writer.new) held.old.bytes
+        (replicate count (blank_code blank))) }
     ensures err { IfErr result IsWriting }
 {
     let mut left = count;
     while left > 0 {
-        let piece = left.min(100);
-        put(writer, held, some_spaces(piece))?;
+        let piece = left.min(MOST);
+        put(writer, held, some_blanks(blank, piece))?;
         left -= piece;
     }
     Ok(())
@@ -121,11 +127,33 @@ fn put_gap<W: Write>(
         Gap::Line(indent) if indent <= 100 => put(writer, held, some_line(indent)),
         Gap::Line(indent) => {
             put(writer, held, "\n")?;
-            put_spaces(writer, held, indent)
+            put_blanks(writer, held, Blank::Space, indent)
         }
         Gap::BlankLine(indent) => {
             put(writer, held, "\n\n")?;
-            put_spaces(writer, held, indent)
+            put_blanks(writer, held, Blank::Space, indent)
+        }
+    }
+}
+
+// Puts a gap as it is spelled.
+#[inline(always)]
+fn put_spelled<W: Write>(
+    writer: &mut W,
+    held: &mut ArrayString<HELD>,
+    gap: Spelled,
+) -> Result<(), FormatError>
+    ensures ok { OnOk result (WritesHeld (W.contents writer.old) (W.contents writer.new) held.old.bytes held.new.bytes
+        (spelled_bytes gap)) }
+    ensures beginning { OnErr result (WriterFailed (W.contents writer.old) (W.contents writer.new) held.old.bytes (spelled_bytes gap)) }
+    ensures err { IfErr result IsWriting }
+{
+    match gap {
+        Spelled::Plain(gap) => put_gap(writer, held, gap),
+        Spelled::Line(ends, tabs, spaces) => {
+            put(writer, held, ends)?;
+            put_blanks(writer, held, Blank::Tab, tabs)?;
+            put_blanks(writer, held, Blank::Space, spaces)
         }
     }
 }
@@ -191,7 +219,7 @@ fn hold_lexeme(held: &mut ArrayString<HELD>, lexeme: Lexeme<'_>)
 
 // Holds a gap and the lexeme after it, if there is room for them and the gap is short.
 #[inline(always)]
-fn hold(held: &mut ArrayString<HELD>, gap: Gap, lexeme: Lexeme<'_>) -> bool
+fn hold_plain(held: &mut ArrayString<HELD>, gap: Gap, lexeme: Lexeme<'_>) -> bool
     ensures { MatchBool result (held.new.bytes ≡ held.old.bytes ++ (gap_bytes gap ++ text_of lexeme.entry)) (held.new ≡ held.old) }
 {
     if held.remaining_capacity() < 101 || held.remaining_capacity() - 101 < lexeme.text().len() {
@@ -204,12 +232,27 @@ fn hold(held: &mut ArrayString<HELD>, gap: Gap, lexeme: Lexeme<'_>) -> bool
     true
 }
 
+// Holds a gap and the lexeme after it as `hold_plain` does, where the gap has line feeds and spaces alone.
+#[inline(always)]
+fn hold(held: &mut ArrayString<HELD>, gap: Spelled, lexeme: Lexeme<'_>) -> bool
+    ensures { MatchBool result (held.new.bytes ≡ held.old.bytes ++ (spelled_bytes gap ++ text_of lexeme.entry))
+        (held.new ≡ held.old) }
+{
+    match gap {
+        Spelled::Plain(gap) => hold_plain(held, gap, lexeme),
+        Spelled::Line(_, _, _) => false,
+    }
+}
+
 // Holds the lexemes of a layout with their gaps, as long as `hold` does. Answers the first one that it doesn't hold, or `None`
 // where none is left.
-fn hold_some<'a>(held: &mut ArrayString<HELD>, layout: &mut Layout<'a>) -> Option<(Gap, Lexeme<'a>)>
+fn hold_some<'a>(
+    held: &mut ArrayString<HELD>,
+    layout: &mut Layout<'a>,
+) -> Option<(Spelled, Lexeme<'a>)>
     ensures held { MatchOption result ((held.new.bytes ≡ held.old.bytes ++ layout.old) × (layout.new ≡ []))
         (λ next. (done : List ℕ) × (held.new.bytes ≡ held.old.bytes ++ done)
-        × (layout.old ≡ done ++ (gap_bytes next.0 ++ (text_of next.1 ++ layout.new)))) }
+        × (layout.old ≡ done ++ (spelled_bytes next.0 ++ (text_of next.1 ++ layout.new)))) }
     ensures fewer { IfSome result (λ next. length layout.new < length layout.old) }
 {
     while let Some((gap, lexeme)) = layout.next() {
@@ -231,37 +274,38 @@ fn put_layout<W: Write>(
     ensures err { IfErr result IsWriting }
 {
     while let Some((gap, lexeme)) = hold_some(held, layout) {
-        put_gap(writer, held, gap)?;
+        put_spelled(writer, held, gap)?;
         put(writer, held, lexeme.text())?;
     }
     Ok(())
 }
 
-/// Writes a layout and a line feed, or fails after a beginning of them that isn't all.
+/// Writes a layout and what ends it, or fails after a beginning of them that isn't all.
 pub(crate) fn write_layout<W: Write>(
     writer: &mut W,
     layout: &mut Layout<'_>,
+    end: &str,
 ) -> Result<(), FormatError>
-    ensures ok { OnOk result (Appends (W.contents writer.old) (W.contents writer.new) (layout.old ++ line_feed ∷ [])) }
+    ensures ok { OnOk result (Appends (W.contents writer.old) (W.contents writer.new) (layout.old ++ end.now)) }
     ensures beginning { OnErr result
-        (AppendsProperBeginning (W.contents writer.old) (W.contents writer.new) (layout.old ++ line_feed ∷ [])) }
+        (AppendsProperBeginning (W.contents writer.old) (W.contents writer.new) (layout.old ++ end.now)) }
     ensures err { IfErr result IsWriting }
 {
     let mut held = ArrayString::new();
     put_layout(writer, &mut held, layout)?;
-    put(writer, &mut held, "\n")?;
+    put(writer, &mut held, end)?;
     write_text(writer, held.as_str().as_bytes())
 }
 
-// Adds so many spaces to a text.
+// Adds so many blanks to a text.
 #[inline(always)]
-fn push_spaces(text: &mut String, count: usize) -> Result<(), AllocError>
-    ensures { OnOk result (string_bytes text.new ≡ string_bytes text.old ++ spaces count) }
+fn push_blanks(text: &mut String, blank: Blank, count: usize) -> Result<(), AllocError>
+    ensures { OnOk result (string_bytes text.new ≡ string_bytes text.old ++ replicate count (blank_code blank)) }
 {
     let mut left = count;
     while left > 0 {
-        let piece = left.min(100);
-        text.push_str(some_spaces(piece))?;
+        let piece = left.min(MOST);
+        text.push_str(some_blanks(blank, piece))?;
         left -= piece;
     }
     Ok(())
@@ -278,11 +322,26 @@ fn push_gap(text: &mut String, gap: Gap) -> Result<(), AllocError>
         Gap::Line(indent) if indent <= 100 => text.push_str(some_line(indent)),
         Gap::Line(indent) => {
             text.push_str("\n")?;
-            push_spaces(text, indent)
+            push_blanks(text, Blank::Space, indent)
         }
         Gap::BlankLine(indent) => {
             text.push_str("\n\n")?;
-            push_spaces(text, indent)
+            push_blanks(text, Blank::Space, indent)
+        }
+    }
+}
+
+// Adds a gap to a text as it is spelled.
+#[inline(always)]
+fn push_spelled(text: &mut String, gap: Spelled) -> Result<(), AllocError>
+    ensures { OnOk result (string_bytes text.new ≡ string_bytes text.old ++ spelled_bytes gap) }
+{
+    match gap {
+        Spelled::Plain(gap) => push_gap(text, gap),
+        Spelled::Line(ends, tabs, spaces) => {
+            text.push_str(ends)?;
+            push_blanks(text, Blank::Tab, tabs)?;
+            push_blanks(text, Blank::Space, spaces)
         }
     }
 }
@@ -303,13 +362,17 @@ fn push_lexeme(text: &mut String, lexeme: Lexeme<'_>) -> Result<(), AllocError>
     }
 }
 
-/// Adds a layout and a line feed to a text, or memory was refused.
-pub(crate) fn push_layout(text: &mut String, layout: &mut Layout<'_>) -> Result<(), AllocError>
-    ensures { OnOk result (string_bytes text.new ≡ string_bytes text.old ++ (layout.old ++ line_feed ∷ [])) }
+/// Adds a layout to a text, and what ends it, or memory was refused.
+pub(crate) fn push_layout(
+    text: &mut String,
+    layout: &mut Layout<'_>,
+    end: &str,
+) -> Result<(), AllocError>
+    ensures { OnOk result (string_bytes text.new ≡ string_bytes text.old ++ (layout.old ++ end.now)) }
 {
     while let Some((gap, lexeme)) = layout.next() {
-        push_gap(text, gap)?;
+        push_spelled(text, gap)?;
         push_lexeme(text, lexeme)?;
     }
-    text.push_str("\n")
+    text.push_str(end)
 }

@@ -23,11 +23,14 @@ pub(crate) struct Scanner<'a> {
     lists: Vec<Opened>,
     unclosed: Vec<usize>,
     total: usize,
+    /// Whether lines have no blanks inside braces.
+    compact: bool,
 }
 
 impl<'a> Scanner<'a> {
     /// Has seen no list, and goes on with these lexemes.
-    pub(crate) fn new(alloc: Global, lexemes: Ahead<'a>) -> Scanner<'a>
+    pub(crate) fn new(alloc: Global, lexemes: Ahead<'a>, compact: bool) -> Scanner<'a>
+        ensures compact { result.compact ≡ compact }
         ensures lexemes { result.lexemes ≡ lexemes.entry }
         ensures lists { result.lists.items ≡ [] }
         ensures unclosed { result.unclosed.items ≡ [] }
@@ -37,7 +40,16 @@ impl<'a> Scanner<'a> {
             lists: Vec::new(alloc),
             unclosed: Vec::new(alloc),
             total: 0,
+            compact,
         }
+    }
+
+    /// Whether it measures such lines.
+    #[inline]
+    pub(crate) fn measures(&self, compact: bool) -> bool
+        ensures { result ≡ true → self.now.compact ≡ compact }
+    {
+        self.compact == compact
     }
 
     /// How many lists it has seen opened.
@@ -50,6 +62,7 @@ impl<'a> Scanner<'a> {
 
     /// Forgets all lists, and goes on with these lexemes.
     pub(crate) fn restart(&mut self, lexemes: Ahead<'a>)
+        ensures compact { self.new.compact ≡ self.old.compact }
         ensures lexemes { self.new.lexemes ≡ lexemes.entry }
         ensures lists { self.new.lists.items ≡ [] }
         ensures unclosed { self.new.unclosed.items ≡ [] }
@@ -64,6 +77,7 @@ impl<'a> Scanner<'a> {
     ///
     /// `AllocError` where memory is refused.
     pub(crate) fn opened(&mut self) -> Result<(), AllocError>
+        ensures compact { self.new.compact ≡ self.old.compact }
         ensures lists { IfOk result (λ _. self.new.lists.items
             ≡ self.old.lists.items ++ record { start = self.old.total; width = None } ∷ []) }
         ensures unclosed { IfOk result (λ _. self.new.unclosed.items
@@ -84,6 +98,7 @@ impl<'a> Scanner<'a> {
     /// `AllocError` where the width is more than a `usize` holds.
     fn closed(&mut self) -> Result<(), AllocError>
         requires { AreWithin self.old.lists.items self.old.unclosed.items self.old.total }
+        ensures compact { self.new.compact ≡ self.old.compact }
         ensures lists { IfOk result (λ _. self.new.lists.items ≡ closed_last
             self.old.lists.items self.old.unclosed.items self.old.total (comma_columns self.old.lexemes)) }
         ensures unclosed { IfOk result (λ _. self.new.unclosed.items
@@ -104,6 +119,7 @@ impl<'a> Scanner<'a> {
     /// `AllocError` where memory is refused, or the columns are more than a `usize` holds: nothing is known of the lists then.
     fn step(&mut self) -> Result<bool, AllocError>
         requires { IsRight self.old }
+        ensures compact { self.new.compact ≡ self.old.compact }
         ensures scanned { IfOk result (λ _. (rests : List (List (List ℕ)))
             → Knows self.old rests → Knows self.new rests) }
         ensures lists { IfOk result (λ _. length self.old.lists.items ≤ length self.new.lists.items) }
@@ -115,7 +131,10 @@ impl<'a> Scanner<'a> {
         let Some(lexeme) = self.lexemes.next() else {
             return Ok(false);
         };
-        let Some(total) = self.total.checked_add(lexeme_columns(lexeme)) else {
+        let Some(total) = self
+            .total
+            .checked_add(lexeme_columns(self.compact, lexeme, &self.lexemes))
+        else {
             return Err(AllocError);
         };
         self.total = total;
@@ -134,11 +153,12 @@ impl<'a> Scanner<'a> {
     pub(crate) fn width(&mut self, index: usize, most: usize) -> Result<Option<usize>, AllocError>
         requires right { IsRight self.old }
         requires index { index < length self.old.lists.items }
+        ensures compact { self.new.compact ≡ self.old.compact }
         ensures scanned { IfOk result (λ _. (rests : List (List (List ℕ)))
             → Knows self.old rests → Knows self.new rests) }
         ensures lists { IfOk result (λ _. length self.old.lists.items ≤ length self.new.lists.items) }
         ensures width { IfOk result (λ width. (rests : List (List (List ℕ)))
-            → Knows self.old rests → IsWidthUpTo most (rest_at rests index) width) }
+            → Knows self.old rests → IsWidthUpTo self.old.compact most (rest_at rests index) width) }
     {
         loop {
             let list = self.lists[index];

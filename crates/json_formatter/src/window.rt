@@ -37,12 +37,12 @@ impl<'a> Model for Lexemes<'a> {
 }
 
 impl<'a> Lexemes<'a> {
-    /// All lexemes of this text.
-    pub(crate) fn new(alloc: Global, text: &'a str) -> Lexemes<'a>
+    /// All lexemes of this text, on lines that are compact or not.
+    pub(crate) fn new(alloc: Global, text: &'a str, compact: bool) -> Lexemes<'a>
         ensures { result ≡ lexemes text.now }
     {
         let reader = Ahead::new(text);
-        let scanner = Scanner::new(alloc, reader.again());
+        let scanner = Scanner::new(alloc, reader.again(), compact);
         Lexemes {
             reader,
             scanner,
@@ -93,13 +93,15 @@ impl<'a> Lexemes<'a> {
 
     /// The columns from here to what closes the list that is open here, on one line, with the comma after that, if one comes, where
     /// these are at most so many.
-    pub(crate) fn columns_with_comma(&mut self, most: usize) -> Option<usize>
+    pub(crate) fn columns_with_comma(&mut self, compact: bool, most: usize) -> Option<usize>
         ensures same { self.new ≡ self.old }
         ensures width { MatchOption result
-            ((w : ℕ) → width_with_comma 1 self.old ≡ Some w → most < w)
-            (λ w. (width_with_comma 1 self.old ≡ Some w) × (w ≤ most)) }
+            ((w : ℕ) → width_with_comma compact 1 self.old ≡ Some w → most < w)
+            (λ w. (width_with_comma compact 1 self.old ≡ Some w) × (w ≤ most)) }
     {
-        if let Some(index) = self.here {
+        if let Some(index) = self.here
+            && self.scanner.measures(compact)
+        {
             match self.scanner.width(index, most) {
                 Ok(width) => return width,
                 Err(_) => {
@@ -109,7 +111,7 @@ impl<'a> Lexemes<'a> {
                 }
             }
         }
-        width_up_to(self.reader.again(), most)
+        width_up_to(self.reader.again(), compact, most)
     }
 }
 
@@ -136,13 +138,13 @@ fn open_list<'a>(reader: &Ahead<'a>, scanner: &mut Scanner<'a>, passed: &mut usi
 
 /// The columns from here to what closes the list that is open here, on one line, with the comma after that, if one comes, where
 /// these are at most so many. It measures them anew.
-fn width_up_to(mut lexemes: Ahead<'_>, most: usize) -> Option<usize>
-    ensures { IsWidthUpTo most lexemes.entry result }
+fn width_up_to(mut lexemes: Ahead<'_>, compact: bool, most: usize) -> Option<usize>
+    ensures { IsWidthUpTo compact most lexemes.entry result }
 {
     let mut room = most;
     let mut inner: usize = 0;
     while let Some(lexeme) = lexemes.next() {
-        room = room.checked_sub(lexeme_columns(lexeme))?;
+        room = room.checked_sub(lexeme_columns(compact, lexeme, &lexemes))?;
         if opens(lexeme) {
             inner += 1;
         } else if closes(lexeme) {

@@ -2,6 +2,7 @@ mod Classes
 pub mod Gaps
 mod Ended
 mod Words
+pub mod Inline
 mod Strings
 mod Following
 mod Sound
@@ -14,6 +15,7 @@ pub mod SpacedLexemes
 mod Spelling
 mod Values
 pub mod Grammar
+pub mod LineEnds
 mod Content
 mod Reached
 mod Meeting

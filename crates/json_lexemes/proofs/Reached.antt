@@ -1,5 +1,5 @@
 -- What is read of the lexemes of a text, up to one of them.
-use Rattle.std.proofs.Common.{◌≡◌, ◌≢◌, ℕ, ◌+◌, ◌≤◌, Bool, true, false, cond, List, [], ◌∷◌, ◌++◌, length, drop, Option, Some, None}
+use Rattle.std.proofs.Common.{◌≡◌, ◌≢◌, ℕ, ◌+◌, ◌≤◌, Bool, true, false, cond, List, [], ◌∷◌, ◌++◌, length, take, drop, Option, Some, None}
 use Rattle.std.proofs.Common.{option_and_then, refl, sym, ap, ◌∙◌, subst, arith, append-nil, append_assoc, length-append, ◌⊎◌, inl, inr}
 use Rattle.std.proofs.Common.{Result, IfOk}
 use Rattle.std.specs.List.{prefix_len}
@@ -7,7 +7,9 @@ use Rattle.std.proofs.lemmas.Result.{IfOk-weaker}
 use Rattle.std.proofs.lemmas.Bool.{cases_Bool}
 use Rattle.std.proofs.lemmas.List.{drop-drop, length-take}
 use Rattle.json_lexemes.specs.Faults.{begins_value, expects_string, is_plain, plain_front, IsFaultBy, IsStopFrom, ReachesJson}
-use Rattle.json_lexemes.specs.Faults.{StopsAtEnd, StopsAtLexeme, StopsBeingJson}
+use Rattle.json_lexemes.specs.Faults.{IsOpening, OpensWithin, StopsAtEnd, StopsAtLexeme, StopsBeingJson}
+use Rattle.text_places.specs.Places.{IsPlace}
+use Rattle.text_places.specs.declared.place.Place.{Place}
 use Rattle.json_lexemes.specs.Lexemes.{lexemes}
 use Rattle.json_lexemes.specs.Readings.{JsonReading, first_json_reading, json_step, json_reading_after, json_sort_of, JsonSort}
 use Rattle.json_lexemes.specs.Readings.{open_array, close_array, open_object, close_object, comma, colon, string, word}
@@ -161,6 +163,20 @@ module _ (text : List ℕ) (others : List (List ℕ)) (reading : JsonReading) (o
                 ap length (append-nil s),
                 h.bytes,
               );
+        }
+
+    -- it opens a list within so many
+    pub opens_within : (most : ℕ) (place : Place) → IsOpening s → most ≤ length reading.open_brackets
+        → IsPlace (take (offset + length gap) text) place → OpensWithin most text place
+    opens_within most place opens deep at =
+        record {
+          found = next;
+          later = later;
+          reading = reading;
+          reached = record { front = h.front; cut = cut_next; reads = h.reads };
+          opens = opens;
+          deep = deep;
+          at = subst (λ (n : ℕ). IsPlace (take (n + length gap) text) place) (sym h.bytes) at;
         }
 
     -- it may not

@@ -1,6 +1,6 @@
 -- A string in the text: what it says, and where it ends, do not depend on what is after its closing quote.
 use Rattle.std.proofs.Common.{◌≡◌, ℕ, Bool, true, false, cond, ◌&&◌, ◌==◌, nat_lt, List, [], ◌∷◌, ◌++◌, Option, Some, None}
-use Rattle.std.proofs.Common.{option_and_then, inl, inr, ◌⊎◌, refl, sym, ap, ap₂, ◌∙◌, subst, append_assoc}
+use Rattle.std.proofs.Common.{option_and_then, inl, inr, ◌⊎◌, refl, sym, ap, ap₂, ◌∙◌, subst, append_assoc, is_some}
 use Rattle.std.proofs.lemmas.Bool.{false≢true, eqb-true, and_parts, ne_eqb, cases_Bool}
 use Rattle.std.specs.Char.{is_digit, encode_utf8}
 use Rattle.json.specs.Text.{code_unit, short_escape, is_high_surrogate, is_low_surrogate, surrogate_pair, Within, plain, after_backslash}
@@ -11,6 +11,7 @@ use Rattle.json.specs.Lex.{Lexeme, token, string_token, quote, backslash, operat
 use Rattle.json.specs.Lex.{lex, lex_byte}
 use Rattle.json.proofs.Found.{not_found}
 use Rattle.json_lexemes.specs.Lexemes.{lengthened, cut, cut_byte}
+use Rattle.json_lexemes.proofs.Inline.{IsInline, inline_both, inline_by, inline_not, is_line_end}
 
 abbrev mode : Within → Mode
 mode plain = in_string
@@ -18,17 +19,19 @@ mode after_backslash = in_escape
 mode after_u = in_string
 mode (after_high h) = in_string
 
--- a string from here on, up to its closing quote, and the same before any other text
+-- a string from here on, up to its closing quote, without a line end, and the same before any other text
 record Closed (w : Within) (s xs : List ℕ) : Type 0 where
   front : List ℕ
   rest : List ℕ
   is : xs ≡ front ++ rest
+  inline : IsInline front
   read : (r : List ℕ) → content w (front ++ r) ≡ Some s
   lexed : (r : List ℕ) → lex (mode w) (front ++ r) ≡ lex between r
   cuts : (r : List ℕ) → cut (mode w) (front ++ r) ≡ front ∷ cut between r
 
 -- the bytes p stand for f, and lead on
 record Leads (w v : Within) (p f : List ℕ) : Type 0 where
+  inline : IsInline p
   read : (r : List ℕ) → content w (p ++ r) ≡ prepend f (content v r)
   lexed : (r : List ℕ) → lex (mode w) (p ++ r) ≡ lex (mode v) r
   cuts : (r l : List ℕ) (ls : List (List ℕ)) → cut (mode v) r ≡ l ∷ ls → cut (mode w) (p ++ r) ≡ (p ++ l) ∷ ls
@@ -50,6 +53,7 @@ then {w} {v} {p} {f} {s} {xs} leads e closed =
       front = p ++ c.front;
       rest = c.rest;
       is = ap (λ l. p ++ l) c.is ∙ sym (append_assoc p c.front c.rest);
+      inline = inline_both p c.front leads.inline c.inline;
       read = λ r. ap (content w) (append_assoc p c.front r) ∙ leads.read (c.front ++ r) ∙ ap (prepend f) (c.read r) ∙ ap Some t.2;
       lexed = λ r. ap (lex (mode w)) (append_assoc p c.front r) ∙ leads.lexed (c.front ++ r) ∙ c.lexed r;
       cuts = λ r. ap (cut (mode w)) (append_assoc p c.front r) ∙ leads.cuts (c.front ++ r) c.front (cut between r) (c.cuts r);
@@ -87,6 +91,7 @@ plain_leads : (x : ℕ) → (x == 34) ≡ false → (x == 92) ≡ false → nat_
 unfolding content
 plain_leads x q b c =
     record {
+      inline = (inline_not (λ y. nat_lt y 32) x c refl refl, tt);
       read = λ r i. cond (q i) (Some []) (cond (b i) (content after_backslash r) (cond (c i) None (prepend (x ∷ []) (content plain r))));
       lexed = λ r. lex-inside x r q b;
       cuts = λ r l ls e. cut-inside x r q b ∙ ap (lengthened x) e;
@@ -94,16 +99,33 @@ plain_leads x q b c =
 
 backslash_leads : Leads plain after_backslash (92 ∷ []) []
 unfolding content lex cut
-backslash_leads = record { read = λ r. prepend-nil (content after_backslash r); lexed = λ r. refl; cuts = λ r l ls e. ap (lengthened 92) e }
+backslash_leads =
+    record {
+      inline = (refl, tt);
+      read = λ r. prepend-nil (content after_backslash r);
+      lexed = λ r. refl;
+      cuts = λ r l ls e. ap (lengthened 92) e;
+    }
 
 u_leads : Leads after_backslash after_u (117 ∷ []) []
 unfolding content lex cut
-u_leads = record { read = λ r. prepend-nil (content after_u r); lexed = λ r. refl; cuts = λ r l ls e. ap (lengthened 117) e }
+u_leads =
+    record {
+      inline = (refl, tt);
+      read = λ r. prepend-nil (content after_u r);
+      lexed = λ r. refl;
+      cuts = λ r l ls e. ap (lengthened 117) e;
+    }
+
+short_inline : (x c : ℕ) → short_escape x ≡ Some c → is_line_end x ≡ false
+unfolding short_escape
+short_inline x c is = inline_by (λ y. is_some (short_escape y)) x (ap is_some is) refl refl
 
 short_leads : (x c : ℕ) → (x == 117) ≡ false → short_escape x ≡ Some c → Leads after_backslash plain (x ∷ []) (c ∷ [])
 unfolding content lex cut
 short_leads x c u is =
     record {
+      inline = (short_inline x c is, tt);
       read = λ r i. cond (u i) (content after_u r) (option_and_then (λ d. prepend (d ∷ []) (content plain r)) (is i));
       lexed = λ r. refl;
       cuts = λ r l ls e. ap (lengthened x) e;
@@ -113,6 +135,9 @@ short_leads x c u is =
 
 no_digit : (x c : ℕ) → is_digit x 16 ≡ true → is_digit c 16 ≡ false → (x == c) ≡ false
 no_digit x c h k = ne_eqb x c (λ e. false≢true (sym k ∙ ap (λ y. is_digit y 16) (sym e) ∙ h))
+
+hex_inline : (x : ℕ) → is_digit x 16 ≡ true → is_line_end x ≡ false
+hex_inline x h = inline_by (λ y. is_digit y 16) x h refl refl
 
 hex_byte : (x : ℕ) (r l : List ℕ) (ls : List (List ℕ)) → is_digit x 16 ≡ true
     → (lex in_string (x ∷ r) ≡ lex in_string r) × (cut in_string r ≡ l ∷ ls → cut in_string (x ∷ r) ≡ (x ∷ l) ∷ ls)
@@ -134,6 +159,9 @@ module _ (a b c d u : ℕ) (is : code_unit a b c d ≡ Some u) where
       let r = and_parts _ _ q.0 in
       (r.0, r.1, q.1, p.1)
 
+  inline-unit : IsInline (a ∷ b ∷ c ∷ d ∷ [])
+  inline-unit = (hex_inline a hex.0, (hex_inline b hex.1, (hex_inline c hex.2, (hex_inline d hex.3, tt))))
+
   lex-unit : (r : List ℕ) → lex in_string (a ∷ b ∷ c ∷ d ∷ r) ≡ lex in_string r
   lex-unit r =
       (hex_byte a (b ∷ c ∷ d ∷ r) [] [] hex.0).0 ∙ (hex_byte b (c ∷ d ∷ r) [] [] hex.1).0 ∙ (hex_byte c (d ∷ r) [] [] hex.2).0
@@ -148,6 +176,7 @@ module _ (a b c d u : ℕ) (is : code_unit a b c d ≡ Some u) where
   unfolding content
   high_leads high =
       record {
+        inline = inline-unit;
         read = λ r.
             ap (option_and_then (λ v. cond (is_high_surrogate v) (content (after_high v) r)
             (cond (is_low_surrogate v) None (prepend (encode_utf8 v) (content plain r))))) is
@@ -161,6 +190,7 @@ module _ (a b c d u : ℕ) (is : code_unit a b c d ≡ Some u) where
   unfolding content
   unit_leads high low =
       record {
+        inline = inline-unit;
         read = λ r.
             ap (option_and_then (λ v. cond (is_high_surrogate v) (content (after_high v) r)
             (cond (is_low_surrogate v) None (prepend (encode_utf8 v) (content plain r))))) is
@@ -174,6 +204,7 @@ module _ (a b c d u : ℕ) (is : code_unit a b c d ≡ Some u) where
   unfolding content lex cut
   low_leads h low =
       record {
+        inline = (refl, (refl, inline-unit));
         read = λ r.
             ap (option_and_then (λ v. cond (is_low_surrogate v) (prepend (encode_utf8 (surrogate_pair h v)) (content plain r)) None)) is
             ∙ ap (λ t. cond t (prepend (encode_utf8 (surrogate_pair h u)) (content plain r)) None) low;
@@ -188,7 +219,16 @@ Closes w xs = (s : List ℕ) → content w xs ≡ Some s → Closed w s xs
 
 at_quote : (s xs : List ℕ) → content plain (34 ∷ xs) ≡ Some s → Closed plain s (34 ∷ xs)
 unfolding content lex cut
-at_quote s xs e = record { front = 34 ∷ []; rest = xs; is = refl; read = λ r. e; lexed = λ r. refl; cuts = λ r. refl }
+at_quote s xs e =
+    record {
+      front = 34 ∷ [];
+      rest = xs;
+      is = refl;
+      inline = (refl, tt);
+      read = λ r. e;
+      lexed = λ r. refl;
+      cuts = λ r. refl;
+    }
 
 at_byte : (x : ℕ) (xs : List ℕ) → Closes plain xs → Closes after_backslash xs → Closes plain (x ∷ xs)
 unfolding content
@@ -292,11 +332,12 @@ closed (after_high h) (p ∷ u ∷ a ∷ b ∷ []) = λ s e. not_found s e
 closed (after_high h) (p ∷ u ∷ a ∷ b ∷ c ∷ []) = λ s e. not_found s e
 closed (after_high h) (p ∷ u ∷ a ∷ b ∷ c ∷ d ∷ xs) = at_pair h p u a b c d xs (closed plain xs)
 
--- a good string, from its quote on: up to where it ends, and how that reads before any other text
+-- a good string, from its quote on: up to where it ends, without a line end, and how that reads before any other text
 pub record Whole (s xs : List ℕ) : Type 0 where
   pub front : List ℕ
   pub rest : List ℕ
   pub is : xs ≡ front ++ rest
+  pub inline : IsInline front
   pub lexed : (r : List ℕ) → lex between (34 ∷ (front ++ r)) ≡ token (string s) ∷ lex between r
   pub cuts : (r : List ℕ) → cut between (34 ∷ (front ++ r)) ≡ (34 ∷ front) ∷ cut between r
 
@@ -308,6 +349,7 @@ whole_string xs s e =
       front = c.front;
       rest = c.rest;
       is = c.is;
+      inline = c.inline;
       lexed = λ r. ap₂ (λ o l. token (string_token o) ∷ l) (c.read r) (c.lexed r);
       cuts = λ r. ap (lengthened 34) (c.cuts r);
     }

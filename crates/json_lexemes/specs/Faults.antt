@@ -1,5 +1,5 @@
 -- Where a text stops being JSON, and what was expected there.
-use Rattle.std.specs.Prelude.{◌≡◌, ◌≢◌, ◌⊎◌, ℕ, ◌+◌, ◌==◌, Bool, true, false, cond, ◌&&◌, ◌||◌, List, [], ◌∷◌, ◌++◌, length, take}
+use Rattle.std.specs.Prelude.{◌≡◌, ◌≢◌, ◌⊎◌, ℕ, ◌+◌, ◌≤◌, ◌==◌, Bool, true, false, cond, ◌&&◌, ◌||◌, List, [], ◌∷◌, ◌++◌, length, take}
 use Rattle.std.specs.Prelude.{Some, None}
 use Rattle.std.specs.Char.{is_ascii_alphanumeric}
 use Rattle.std.specs.List.{prefix_len}
@@ -117,3 +117,17 @@ pub record IsEndOfUtf8 (bytes : List ℕ) (place : Place) : Type 0 where
   pub offset : ℕ
   pub longest : IsValidUpTo bytes offset
   pub at : IsPlace (take offset bytes) place
+
+-- the bracket that opens an array, or an object
+abbrev pub IsOpening : List ℕ → Type 0
+IsOpening s = (s ≡ ascii.open_bracket ∷ []) ⊎ (s ≡ ascii.open_brace ∷ [])
+
+-- A bracket opens a list at this place, where so many are open at least.
+pub record OpensWithin (most : ℕ) (text : List ℕ) (place : Place) : Type 0 where
+  pub found : Spaced
+  pub later : List Spaced
+  pub reading : JsonReading
+  pub reached : ReachesJson text (found ∷ later) reading
+  pub opens : IsOpening found.lexeme
+  pub deep : most ≤ length reading.open_brackets
+  pub at : IsPlace (take (length (put_together reached.front) + length found.gap) text) place

@@ -5,6 +5,7 @@
 
 mod blank_lines;
 mod cut;
+mod depth;
 mod expected;
 mod fault;
 mod laws;
@@ -14,6 +15,7 @@ mod next;
 mod string;
 
 pub use blank_lines::BlankLines;
+pub use depth::depth_fault;
 pub use expected::Expected;
 pub use fault::{Fault, fault_of};
 pub use laws::{law_grammar, law_joined, law_reading, law_spacing, law_stops};

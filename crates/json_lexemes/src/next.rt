@@ -148,6 +148,13 @@ impl Reading {
         }
     }
 
+    /// How many brackets are open.
+    pub fn depth(&self) -> usize
+        ensures { result ≡ length (json_reading_of self.now).open_brackets }
+    {
+        self.open.len()
+    }
+
     /// The innermost bracket that is open.
     pub fn innermost(&self) -> Option<Bracket>
         ensures { result ≡ spec.innermost_bracket (brackets_of self.now.«open».items) }

@@ -5,4 +5,4 @@ mod bracket;
 mod text;
 mod value;
 
-pub use text::{MAX_DEPTH, is_json};
+pub use text::{MAX_DEPTH, is_json, is_json_within};

@@ -1,17 +1,19 @@
-//! Lays JSON texts out: `jsonfmt [--width N] [--indent N] [--fill] [--keep-blank-lines] [FILE]..` writes the layout of each
-//! file, or of standard input, to standard output while it is made. With `--write` the layout of a file replaces it, where it is
-//! not laid out already. With `--check` no layout is written: the files that are not laid out are named, and the status says
-//! whether there is one. With `--diff` it is printed how they differ from their layouts. A text that is no JSON is named with the
-//! place where it stops being JSON, what was expected there, and what stands there.
+//! Lays JSON texts out: `jsonfmt [--width N] [--indent N|tab] [--fill numbers|all|none] [--keep-blank-lines]
+//! [--line-ending lf|crlf] [--compact] [--depth N] [FILE]..` writes the layout of each file, or of standard input, to standard
+//! output while it is made. With `--write` the layout of a file replaces it, where it is not laid out already. With `--check` no
+//! layout is written: the files that are not laid out are named, and the status says whether there is one. With `--diff` it is
+//! printed how they differ from their layouts. A text that is no JSON is named with the place where it stops being JSON, what was
+//! expected there, and what stands there.
 #![tactic(auto)]
 
+use editor_config::Settings;
 use formatter_files::arguments::words;
 use formatter_files::ending::Ending;
 use formatter_files::files::{ending_after, ending_of, lay_out_all};
 use formatter_files::formatter::{Formatter, LayoutError, Verdict};
 use formatter_files::message::{say_expected, say_opened, say_word};
-use json_formatter::{FormatError, Style, format};
-use json_lexemes::{Expected, Lexeme, fault_of};
+use json_formatter::{FormatError, LineEnd, Style, format};
+use json_lexemes::{Expected, Lexeme, depth_fault, fault_of};
 use jsonfmt_request::request::requested;
 use std::fs::Files;
 use std::io;
@@ -41,6 +43,32 @@ fn refuse<R: AllocGlobal + Eprint>(rt: &R, name: &str, bytes: &[u8]) -> io::Resu
     eprintln!(rt)
 }
 
+// Says which bracket of a JSON text is deeper in others than it may be.
+fn refuse_depth<R: AllocGlobal + Eprint>(
+    rt: &R,
+    name: &str,
+    text: &str,
+    depth: usize,
+) -> io::Result<()> {
+    let fault = depth_fault(rt.alloc(), text, depth)?;
+    let expected = format!(in rt.alloc(); "at most {depth} levels of nesting")?;
+    say_expected(rt, name, fault.place, expected.as_str())?;
+    say_found(rt, fault.found, fault.expected)?;
+    eprintln!(rt)
+}
+
+// How many columns a tab counts where nothing says it, as for the option.
+const TAB_COLUMNS: u32 = 4;
+
+// What ends lines: what an option asks for, or else what settings say.
+fn line_end(asked: LineEnd, said: Option<editor_config::LineEnd>) -> LineEnd {
+    match (asked, said) {
+        (LineEnd::OfText, Some(editor_config::LineEnd::Lf)) => LineEnd::Lf,
+        (LineEnd::OfText, Some(editor_config::LineEnd::CrLf)) => LineEnd::CrLf,
+        _ => asked,
+    }
+}
+
 // JSON texts, laid out in a style.
 #[derive(Drop)]
 struct Json(Style);
@@ -58,6 +86,19 @@ impl Formatter for Json {
         ".json"
     }
 
+    fn with_settings(&self, settings: Settings) -> Json {
+        let Json(style) = self;
+        let has_tabs = settings.uses_tabs();
+        let indent = if has_tabs { TAB_COLUMNS } else { style.indent };
+        Json(Style {
+            width: settings.width().unwrap_or(style.width),
+            indent: settings.indent().unwrap_or(indent),
+            tabs: style.tabs || has_tabs,
+            line_end: line_end(style.line_end, settings.line_end()),
+            ..*style
+        })
+    }
+
     fn write_layout<R: AllocGlobal + Eprint, W: Write>(
         &self,
         rt: &R,
@@ -69,6 +110,10 @@ impl Formatter for Json {
             match format(rt.alloc(), text, self.0, writer) {
                 Ok(()) => return Ok(Verdict::LaidOut),
                 Err(FormatError::NotJson) => {}
+                Err(FormatError::TooDeep) => {
+                    refuse_depth(rt, name, text, self.0.depth)?;
+                    return Ok(Verdict::Refused);
+                }
                 Err(FormatError::Memory(error)) => {
                     return Err(LayoutError::Text(io::Error::from(error)));
                 }

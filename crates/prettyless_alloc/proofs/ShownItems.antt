@@ -43,6 +43,9 @@ text_shows (b ∷ bs) = as_string_shows (b ∷ bs)
 pub ascii_text_shows : (s : List ℕ) → shows (Text s) (text_items s)
 ascii_text_shows s = itself s
 
+pub text_with_width_shows : (w : ℕ) (s : List ℕ) → shows (TextWithLen w s) (text_items s)
+text_with_width_shows w s = itself s
+
 pub texts_show : TextsShow
 texts_show s = (text_shows s, as_string_shows s)
 

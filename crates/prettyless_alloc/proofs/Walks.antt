@@ -1,10 +1,10 @@
 -- Iterators that are walked on, and trees with nothing between them.
-use Rattle.std.proofs.Common.{◌≡◌, refl, sym, ◌∙◌, ap, true, List, [], ◌∷◌, Option, Some}
+use Rattle.std.proofs.Common.{◌≡◌, refl, sym, ◌∙◌, ap, subst, true, false, List, [], ◌∷◌, Option, Some}
 use Rattle.std.specs.Iterator.{Drains}
 use Rattle.std.specs.List.{FoldsTo}
 use Rattle.prettyless_doc.specs.DocTree.{is_nil}
-use Rattle.prettyless_doc.specs.Tree.{Tree, Nil}
-use Rattle.prettyless_build.specs.Built.{append, appends}
+use Rattle.prettyless_doc.specs.Tree.{Tree, Nil, Append}
+use Rattle.prettyless_build.specs.Built.{IsNotNil, append, append_to, appends}
 use Rattle.prettyless_build.specs.Iterated.{GivesNext, GivesTwo, appends_after}
 
 module _ {S A : Type 0} (steps : S → Option A → S → Type 0) (it j : S) (x : A) (step : steps it (Some x) j) where
@@ -45,3 +45,35 @@ between_nothing R s (x ∷ xs) a z e h =
 -- the same, with one tree that is appended first
 pub nothing_between : (s a b z : Tree) → s ≡ Nil → z ≡ append a b → z ≡ append (append a s) b
 nothing_between s a b z e h = h ∙ ap (λ (t : Tree). append t b) (sym (ap (append a) e ∙ append_nothing a))
+
+-- ---- Trees that are something
+
+-- the tree of which it is said is something
+pub some_from : (x : Tree) → is_nil x ≡ false → IsNotNil x
+some_from Nil e = cc
+some_from _ e = tt
+
+append_to_some : (x y : Tree) → IsNotNil y → append_to x y ≡ Append x y
+append_to_some x Nil h = absurd h
+append_to_some x _ h = refl
+
+append_some : (x y : Tree) → IsNotNil x → append x y ≡ append_to x y
+append_some Nil y h = absurd h
+append_some _ y h = refl
+
+some_to : (x y : Tree) → IsNotNil x → IsNotNil (append_to x y)
+some_to x Nil h = h
+some_to x _ h = tt
+
+-- two of them are one node
+pub two_appended : (x y : Tree) → IsNotNil x → IsNotNil y → append x y ≡ Append x y
+two_appended x y h k = append_some x y h ∙ append_to_some x y k
+
+-- something stays so where a tree is appended
+pub some_before : (x y : Tree) → IsNotNil x → IsNotNil (append x y)
+some_before x y h = subst IsNotNil (sym (append_some x y h)) (some_to x y h)
+
+-- and where it is appended
+pub some_after : (x y : Tree) → IsNotNil y → IsNotNil (append x y)
+some_after Nil y h = h
+some_after x y h = some_before x y tt

@@ -1,6 +1,6 @@
 ghost use Rattle.std.specs.Prelude.{◌≡◌, ◌<◌, IfOk, IfErr, IsOk, map};
 ghost use Rattle.std.specs.Cow.{cow_str_bytes};
-ghost use Rattle.prettyless_doc.specs.Tree.{Nil, Fail, Text as TextTree, WeakSpace, HardLine, WeakLine, ExpandParent};
+ghost use Rattle.prettyless_doc.specs.Tree.{Nil, Fail, Text as TextTree, TextWithLen, WeakSpace, HardLine, WeakLine, ExpandParent};
 ghost use Rattle.prettyless_doc.specs.BuildErrors.{IsMemory};
 ghost use Rattle.prettyless_doc.specs.Counted as counted;
 ghost use Rattle.prettyless_doc.specs.DocTree.{built};
@@ -59,6 +59,21 @@ pub trait DocAllocator<'a>: DocPlace<'a> {
     /// ```
     fn ascii_text(&'a self, text: CowStr<'a>) -> Result<DocBuilder<'a, Self>, BuildError>
         ensures ok { IfOk result (λ b. built Self.Doc.tree b.1 ≡ TextTree (cow_str_bytes text.entry)) }
+        ensures borrowed { IfLent text.entry (IsOk result) }
+        ensures err { IfErr result IsMemory };
+
+    /// A text that counts as so many columns, for instance one with marks that are not shown. An empty one is a
+    /// text too, and counts as none. Only an owned text takes memory, and fails where that is refused.
+    ///
+    /// ```
+    /// place.text_with_width(CowStr::Borrowed("<b>bold"), 4)? // "<b>bold", four columns
+    /// ```
+    fn text_with_width(
+        &'a self,
+        text: CowStr<'a>,
+        width: usize,
+    ) -> Result<DocBuilder<'a, Self>, BuildError>
+        ensures ok { IfOk result (λ b. built Self.Doc.tree b.1 ≡ TextWithLen width (cow_str_bytes text.entry)) }
         ensures borrowed { IfLent text.entry (IsOk result) }
         ensures err { IfErr result IsMemory };
 
@@ -290,6 +305,15 @@ impl<'a, D: DocPlace<'a>> DocAllocator<'a> for D {
     fn ascii_text(&'a self, text: CowStr<'a>) -> Result<DocBuilder<'a, D>, BuildError> {
         let text = Text::from_cow(self.memory(), text)?;
         Ok(DocBuilder::new(self, Doc::Text(text)))
+    }
+
+    fn text_with_width(
+        &'a self,
+        text: CowStr<'a>,
+        width: usize,
+    ) -> Result<DocBuilder<'a, D>, BuildError> {
+        let text = Text::from_cow(self.memory(), text)?;
+        Ok(DocBuilder::new(self, Doc::TextWithLen(width, text)))
     }
 
     #[inline(always)]

@@ -1,11 +1,11 @@
 //! Documents of all the items of an iterator, with a separator in each gap.
-ghost use Rattle.std.specs.Prelude.{◌⊎◌, IfOk, IfErr, List};
+ghost use Rattle.std.specs.Prelude.{◌≡◌, ◌⊎◌, IfOk, IfErr, List};
 ghost use Rattle.std.specs.Iterator.{IsFinite, IsFiniteIterable, Drains};
 ghost use Rattle.std.specs.List.{FoldsTo};
 ghost use Rattle.prettyless_doc.specs.BuildErrors.{IsMemory};
 ghost use Rattle.prettyless_doc.specs.DocTree.{built};
 ghost use Rattle.prettyless_doc.specs.Tree.{Tree};
-ghost use Rattle.prettyless_build.specs.Built.{Builds, append};
+ghost use Rattle.prettyless_build.specs.Built.{Builds, IsNotNil, append};
 ghost use Rattle.prettyless_build.specs.Iterated.{GivesAll, GivesSome, GivesNext, HasGap, Intersperses, appends_after};
 
 use crate::concat::append_all;
@@ -83,7 +83,7 @@ where
     append_between(first, gap, second, items)
 }
 
-// `all`, the gap and `last`, and for each item the gap and its document. The gap itself comes last, after its copies.
+// `all`, the gap and `last`, and for each item the gap and its document. The gap is something; it comes last, after its copies.
 fn append_between<'a, D: DocPlace<'a>, I: Iterator>(
     all: DocBuilder<'a, D>,
     gap: D::Doc,
@@ -94,6 +94,7 @@ where
     I::Item: Pretty<'a, D>,
     requires can { I.can_next items }
     requires ends { IsFinite (I.remaining items) }
+    requires some { IsNotNil (D.Doc.tree gap) }
     ensures ok { IfOk result (λ b. (xs : List I.Item) × Drains I.next_gives items xs
         × FoldsTo (appends_after (D.Doc.tree gap) I.Item.becomes)
         (append (append (built D.Doc.tree all.entry.1) (D.Doc.tree gap)) (built D.Doc.tree last.entry.1)) xs
@@ -101,15 +102,65 @@ where
     ensures err { IfErr result (λ e. IsMemory e ⊎ GivesNext I.next_gives items (λ x. I.Item.refuses x e)) }
 {
     let place = all.0;
+    let mut items = items;
+    let Some(item) = items.next() else {
+        return join_after(all, gap, last);
+    };
+    let next = item.pretty(place)?;
+    let copy = place.clone_ptr(&gap)?;
+    let begun = join_after(all, copy, last)?.into_doc()?;
+    append_placed(place, begun, gap, next, items)
+}
+
+// The same where `all` is placed already, and is something.
+fn append_placed<'a, D: DocPlace<'a>, I: Iterator>(
+    place: &'a D,
+    all: D::Doc,
+    gap: D::Doc,
+    last: DocBuilder<'a, D>,
+    items: I,
+) -> Result<DocBuilder<'a, D>, BuildError>
+where
+    I::Item: Pretty<'a, D>,
+    requires can { I.can_next items }
+    requires ends { IsFinite (I.remaining items) }
+    requires some { IsNotNil (D.Doc.tree all) × IsNotNil (D.Doc.tree gap) }
+    ensures ok { IfOk result (λ b. (xs : List I.Item) × Drains I.next_gives items xs
+        × FoldsTo (appends_after (D.Doc.tree gap) I.Item.becomes)
+        (append (append (D.Doc.tree all) (D.Doc.tree gap)) (built D.Doc.tree last.entry.1)) xs
+        (built D.Doc.tree b.1)) }
+    ensures err { IfErr result (λ e. IsMemory e ⊎ GivesNext I.next_gives items (λ x. I.Item.refuses x e)) }
+{
     let mut all = all;
     let mut last = last;
     for item in items {
-        let doc = item.pretty(place)?;
+        let next = item.pretty(place)?;
         let copy = place.clone_ptr(&gap)?;
-        all = join_after(all, copy, last)?;
-        last = doc;
+        all = place_after(place, all, copy, last)?;
+        last = next;
     }
-    join_after(all, gap, last)
+    join_after(DocBuilder::from_doc(place, all), gap, last)
+}
+
+// `all`, the gap and `doc`, one after the other; the first two are something.
+#[inline(always)]
+#[tactic(auto, using(crate::proofs::Walks::two_appended, crate::proofs::Walks::some_before))]
+fn place_after<'a, D: DocPlace<'a>>(
+    place: &'a D,
+    all: D::Doc,
+    gap: D::Doc,
+    doc: DocBuilder<'a, D>,
+) -> Result<D::Doc, BuildError>
+    requires some { IsNotNil (D.Doc.tree all) × IsNotNil (D.Doc.tree gap) }
+    ensures ok { IfOk result (λ p. D.Doc.tree p ≡ append (append (D.Doc.tree all) (D.Doc.tree gap)) (built D.Doc.tree doc.entry.1)) }
+    ensures some { IfOk result (λ p. IsNotNil (D.Doc.tree p)) }
+    ensures err { IfErr result IsMemory }
+{
+    let front = place.alloc(Doc::Append(all, gap))?;
+    if doc.doc().is_nil() {
+        return Ok(front);
+    }
+    place.alloc(Doc::Append(front, doc.into_doc()?))
 }
 
 // `all`, the gap and `doc`, one after the other.

@@ -36,23 +36,34 @@ pub extern "C" fn prettyless_layout(
 /// The answer is the number of a status, which says what `out` and `written` are, and of bytes that are no JSON text where
 /// that is seen. `limit` is the greatest length of the layout in bytes, or 0 for none.
 #[unsafe(no_mangle)]
-pub extern "C" fn prettyless_json_layout(
+pub extern "C" fn prettyless_layout_json(
     alloc: Global,
     text: &[u8],
     width: usize,
     indent: u32,
     fill: bool,
+    keep_blank_lines: bool,
     limit: usize,
     out: &mut [u8],
     written: &mut usize,
     line: &mut usize,
     column: &mut usize,
 ) -> u32
-    ensures { json.AnswersJson (style_of width indent fill) (limit_of limit) text.now out.old out.new written.new line.new
-        column.new result }
+    ensures { json.AnswersJson (style_of width indent fill keep_blank_lines) (limit_of limit) text.now out.old out.new
+        written.new line.new column.new result }
 {
     json_layout(
-        alloc, text, width, indent, fill, limit, out, written, line, column,
+        alloc,
+        text,
+        width,
+        indent,
+        fill,
+        keep_blank_lines,
+        limit,
+        out,
+        written,
+        line,
+        column,
     )
 }
 
@@ -61,7 +72,7 @@ pub extern "C" fn prettyless_json_layout(
 /// The answer is the number of a status, which says what `out` and `written` are, and of bytes that are no TOML text where
 /// that is seen. `limit` is the greatest length of the layout in bytes, or 0 for none.
 #[unsafe(no_mangle)]
-pub extern "C" fn prettyless_toml(
+pub extern "C" fn prettyless_layout_toml(
     alloc: Global,
     text: &[u8],
     width: usize,

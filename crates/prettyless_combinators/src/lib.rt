@@ -143,6 +143,18 @@ pub fn as_string<T: fmt::Display>(value: T) -> AsString<T>
     AsString(value)
 }
 
+/// A text that counts as so many columns, for instance one with marks that are not shown.
+///
+/// ```
+/// text_with_width(CowStr::Borrowed("<b>bold"), 4) // "<b>bold"
+/// ```
+pub fn text_with_width<'a>(text: CowStr<'a>, width: usize) -> TextWithWidth<'a>
+    ensures text { result.0 ≡ text.entry }
+    ensures width { result.1 ≡ width }
+{
+    TextWithWidth(text, width)
+}
+
 /// A text whose line ends, each LF or CR, are written as they are, with no indent after them. It keeps the groups
 /// around it from being flat, and fails under `flatten`.
 ///

@@ -4,6 +4,7 @@ ghost use Rattle.std.specs.Cow.{cow_str_bytes};
 ghost use Rattle.prettyless_doc.specs.BuildErrors.{IsMemory};
 ghost use Rattle.prettyless_doc.specs.Counted as counted;
 ghost use Rattle.prettyless_doc.specs.TextBytes.{IsOwnedAnd};
+ghost use Rattle.prettyless_doc.specs.Tree.{TextWithLen};
 
 use prettyless_alloc::DocAllocator;
 use prettyless_build::{DocBuilder, Pretty};
@@ -23,6 +24,22 @@ impl<'a, D: DocPlace<'a>, T: fmt::Display + Drop> Pretty<'a, D> for AsString<T> 
     fn pretty(self, place: &'a D) -> Result<DocBuilder<'a, D>, BuildError> {
         let AsString(value) = self;
         place.as_string(value)
+    }
+}
+
+/// A text that counts as so many columns, as `text_with_width` of a place of nodes makes it. Only an owned text takes
+/// memory, and fails where that is refused.
+#[derive(Debug, Drop)]
+pub struct TextWithWidth<'a>(pub(crate) CowStr<'a>, pub(crate) usize);
+
+impl<'a, D: DocPlace<'a>> Pretty<'a, D> for TextWithWidth<'a> {
+    ghost becomes = { λ t y. y ≡ TextWithLen t.1 (cow_str_bytes t.0) };
+
+    ghost refuses = { λ t e. IsOwnedAnd t.0 (IsMemory e) };
+
+    fn pretty(self, place: &'a D) -> Result<DocBuilder<'a, D>, BuildError> {
+        let TextWithWidth(text, width) = self;
+        place.text_with_width(text, width)
     }
 }
 

@@ -47,9 +47,9 @@ pub record CountsVisits {A E : Type 0} (o : RenderOptions) (d : Tree) (v w : Vis
   pub printer : suffix_depth d ≡ 0 → w.printer ≤ v.printer + size d
   -- Without line suffixes each group and partial union starts one probe, which visits each node at most once.
   pub probes : suffix_depth d ≡ 0 → w.probes ≤ v.probes + size d * probed d
-  -- Where a table bounds the probes of the document at this width, and none was refused memory, probes visit at most sixteen nodes for
+  -- Where a table bounds the probes of the document, and none was refused memory, probes visit at most sixteen nodes for
   -- each node, and a thousand, whatever the answer: so all visits are linear in the document.
-  pub few : IsLinear o.width d → w.refused ≡ 0 → IsLinearBound 16 1000 (size d) v w
+  pub few : IsLinear d → w.refused ≡ 0 → IsLinearBound 16 1000 (size d) v w
   -- `Ok`: the printer visits at least the nodes that the layout lays, up to the greatest count.
   pub laid : OnOk result (min (v.printer + laid_nodes o d) (2 ^ 64 - 1) ≤ w.printer)
   -- `Ok`: the probes visit at least one node for each probe that the layout needs, up to the greatest count.

@@ -73,16 +73,15 @@ impl<'a, T: DocPtr<'a>> Doc<'a, T> {
     ///
     /// A document of at most 1,048,576 nodes is first stored in a table, where a node counts in each place that it has.
     /// Over that a probe reads what has no choice by column or nesting in two visits. Most documents take two to four
-    /// times as long so. A larger one is rendered as by the other calls, and so is one whose table is refused memory, or
-    /// at a width of 2^32 or more.
+    /// times as long so. A larger one is rendered as by the other calls, and so is one whose table is refused memory.
     ///
     /// In a document with no line suffix the printer visits each node at most once, also where a trial is rejected.
     /// Each group and partial union starts at most one probe, which visits each node at most once.
     ///
-    /// Take one that has no choice by column or nesting either, and fewer than 2^32 - 1 nodes. At a width below 2^32
-    /// probes visit at most sixteen nodes for each of its nodes, and a thousand. Of at most 1,048,576 nodes they visit
-    /// two for each. That holds where no table was refused memory, which `visits` counts too, and where the printer's
-    /// count stays below the greatest `u64`.
+    /// Take one that has no choice by column or nesting either, and fewer than 2^32 - 1 nodes. Then probes visit at most
+    /// sixteen nodes for each of its nodes, and a thousand. Of at most 1,048,576 nodes they visit two for each. That
+    /// holds where no table was refused memory, which `visits` counts too, and where the printer's count stays below the
+    /// greatest `u64`.
     ///
     /// After `Ok` the printer has visited at least the nodes that the layout lays. Its probes have visited at least one
     /// node for each probe that the layout needs. Both hold up to the greatest `u64`. In this lower bound a rejected
@@ -102,7 +101,7 @@ impl<'a, T: DocPtr<'a>> Doc<'a, T> {
         ensures rendered { RendersDoc options (tree_of T.tree self.now) (W.document_errors out.new)
             (W.lender out.old) (W.lender out.new) (W.bytes out.old) (W.bytes out.new) (W.failures out.old) (W.failures out.new) result }
         ensures counts { CountsVisits options (tree_of T.tree self.now) visits.old visits.new result }
-        ensures twice { BoundedByTable options.width (tree_of T.tree self.now) visits.old visits.new }
+        ensures twice { BoundedByTable (tree_of T.tree self.now) visits.old visits.new }
     {
         render::render_over_table(alloc, self, options, out, visits)
     }

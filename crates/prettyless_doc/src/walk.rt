@@ -24,6 +24,11 @@ impl<'d, 'a, T: DocPtr<'a>> Walk for &'d Doc<'a, T> {
     }
 
     #[inline(always)]
+    fn touch(&self) -> bool {
+        matches!(**self, Doc::Nil)
+    }
+
+    #[inline(always)]
     fn view(&self) -> View<'_, Self> {
         match **self {
             Doc::Nil => View::Nil,

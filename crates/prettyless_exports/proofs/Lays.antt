@@ -1,11 +1,11 @@
 -- What a render into a new area leaves.
 use Rattle.std.proofs.Common.{◌≡◌, refl, ℕ, List, [], ap, sym, ◌∙◌, subst, arith, Some, Result, Ok, Err, IfOk, OnOk}
 use Rattle.std.proofs.lemmas.List.{append_cancel_left}
-use Rattle.prettyless_area.specs.Account.{account}
-use Rattle.prettyless_area.specs.declared.area.Area.{Area}
-use Rattle.prettyless_area.proofs.Areas.{account_of, puts_all, puts_to_limit}
-use Rattle.prettyless_area.proofs.Limits.{limit_of_all, limit_of_some}
-use Rattle.prettyless_area.specs.Overlay.{KeepsLimit}
+use Rattle.prettyless_exports.specs.Account.{account}
+use Rattle.prettyless_exports.specs.declared.area.Area.{Area}
+use Rattle.prettyless_exports.proofs.Areas.{account_of, puts_all, puts_to_limit}
+use Rattle.prettyless_exports.proofs.Limits.{limit_of_all, limit_of_some}
+use Rattle.prettyless_exports.specs.Overlay.{KeepsLimit}
 use Rattle.prettyless_model.specs.Content.{AppendsContent, HasContent}
 use Rattle.prettyless_model.specs.Layout.{Bytes, bytes_in, layout}
 use Rattle.prettyless_model.specs.Tree.{Tree}

@@ -1,3 +1,7 @@
+mod Accounts
+pub mod Areas
 mod Lays
+pub mod Limits
 pub mod Numbered
 mod Names
+mod Overlaid

@@ -1,6 +1,6 @@
 -- A name in an area.
 use Rattle.std.proofs.Common.{ℕ, min, List, length, ap, arith, Result, Ok, Err, OnOk, OnErr}
-use Rattle.prettyless_area.specs.Overlay.{PutsAll, PutsToLimit}
+use Rattle.prettyless_exports.specs.Overlay.{PutsAll, PutsToLimit}
 use Rattle.prettyless_exports.specs.Answers.{Holds}
 
 -- bytes are within a limit of their own length

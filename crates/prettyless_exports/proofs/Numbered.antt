@@ -1,8 +1,8 @@
 -- What the number of a status says.
 use Rattle.std.proofs.lemmas.List.{length-take}
 use Rattle.std.proofs.Common.{◌≡◌, refl, ◌≤◌, ◌<◌, ◌⊎◌, inl, inr, ℕ, List, [], ◌∷◌, ◌++◌, length, take, ◌∙◌, subst, arith}
-use Rattle.prettyless_area.specs.Overlay.{overlay, KeepsLimit}
-use Rattle.prettyless_area.proofs.Limits.{keeps_limit}
+use Rattle.prettyless_exports.specs.Overlay.{overlay, KeepsLimit}
+use Rattle.prettyless_exports.proofs.Limits.{keeps_limit}
 use Rattle.prettyless_model.specs.Layout.{bytes_in, layout}
 use Rattle.prettyless_model.specs.Tree.{Tree}
 use Rattle.prettyless_model.specs.declared.options.RenderOptions.{RenderOptions}

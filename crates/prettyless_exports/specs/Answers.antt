@@ -1,6 +1,6 @@
 -- What a call for the layout of a program answers, for each status.
 use Rattle.std.specs.Prelude.{◌≡◌, ◌≤◌, ◌<◌, ◌⊎◌, ◌-◌, ◌^◌, ◌==◌, ℕ, Bool, List, ◌++◌, length, min, take, if◌then◌else◌}
-use Rattle.prettyless_area.specs.Overlay.{overlay, KeepsLimit}
+use Rattle.prettyless_exports.specs.Overlay.{overlay, KeepsLimit}
 use Rattle.prettyless_model.specs.Content.{HasContent}
 use Rattle.prettyless_model.specs.Layout.{Whole, Cut, bytes_in, layout}
 use Rattle.prettyless_model.specs.Tree.{Tree}

@@ -1,6 +1,6 @@
 -- What a layout into an area leaves.
 use Rattle.std.specs.Prelude.{◌≡◌, ℕ, List, ◌++◌, Result, Ok, Err, OnOk}
-use Rattle.prettyless_area.specs.Overlay.{PutsAll, PutsToLimit, KeepsLimit}
+use Rattle.prettyless_exports.specs.Overlay.{PutsAll, PutsToLimit, KeepsLimit}
 use Rattle.prettyless_model.specs.Content.{HasContent}
 use Rattle.prettyless_model.specs.Layout.{Bytes, Whole, Cut, bytes_in, layout}
 use Rattle.prettyless_model.specs.Tree.{Tree}

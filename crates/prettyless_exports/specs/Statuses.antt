@@ -1,6 +1,6 @@
 -- What each status of the code says.
 use Rattle.std.specs.Prelude.{◌≡◌, ◌≤◌, ◌<◌, ℕ, List, ◌++◌, length, take}
-use Rattle.prettyless_area.specs.Overlay.{overlay}
+use Rattle.prettyless_exports.specs.Overlay.{overlay}
 use Rattle.prettyless_model.specs.Content.{HasContent}
 use Rattle.prettyless_model.specs.Layout.{Whole, Cut, bytes_in, layout}
 use Rattle.prettyless_model.specs.Tree.{Tree}

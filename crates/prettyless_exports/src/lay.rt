@@ -2,7 +2,7 @@
 ghost use Rattle.prettyless_doc.specs.DocTree.{tree_of};
 ghost use Rattle.prettyless_exports.specs.Laid.{LaysInto};
 
-use prettyless_area::area::{Area, Full};
+use crate::area::{Area, Full};
 use prettyless_doc::doc::{Doc, DocPtr};
 use prettyless_model::options::RenderOptions;
 use prettyless_sink::error::RenderError;

@@ -1,10 +1,10 @@
 //! Texts that are put into areas of bytes.
 ghost use Rattle.std.specs.Prelude.{OnOk, OnErr};
-ghost use Rattle.prettyless_area.specs.Overlay.{PutsAll, PutsToLimit};
+ghost use Rattle.prettyless_exports.specs.Overlay.{PutsAll, PutsToLimit};
 ghost use Rattle.prettyless_exports.specs.Answers.{Holds};
 ghost use Rattle.prettyless_exports.specs.Texts.{IsPut};
 
-use prettyless_area::area::{Area, Full};
+use crate::area::{Area, Full};
 use prettyless_sink::render::Render;
 
 /// How much of a text was put into an area.

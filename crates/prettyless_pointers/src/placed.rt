@@ -2,7 +2,7 @@
 ghost use Rattle.std.specs.Prelude.{◌≡◌, ◌⊎◌, IfOk, IfErr, List};
 ghost use Rattle.std.specs.Cow.{cow_str_bytes};
 ghost use Rattle.std.specs.Iterator.{IsFiniteIterable};
-ghost use Rattle.prettyless_doc.specs.Tree.{Tree, Nil, Fail, WeakSpace, HardLine, WeakLine, ExpandParent, BreakOrFlat, Union, OnColumn};
+ghost use Rattle.prettyless_doc.specs.Tree.{Tree, Nil, Fail, TextWithLen, WeakSpace, HardLine, WeakLine, ExpandParent, BreakOrFlat, Union, OnColumn};
 ghost use Rattle.prettyless_doc.specs.Tree.{OnNesting};
 ghost use Rattle.prettyless_doc.specs.BuildErrors.{IsMemory};
 ghost use Rattle.prettyless_doc.specs.Counted as counted;
@@ -130,6 +130,14 @@ pub trait PlacedDoc<'a, D: DocPlace<'a, Doc = Self>>: DocPtr<'a> {
     fn text(place: &'a D, text: CowStr<'a>) -> Result<Self, BuildError>
         ensures { to.Builds result Self.tree (counted.text (cow_str_bytes text.entry)) };
 
+    /// A text that counts as so many columns. An empty one is a text too, and counts as none.
+    ///
+    /// ```
+    /// BoxDoc::text_with_width(place, CowStr::Borrowed("<b>bold"), 4)? // "<b>bold", four columns
+    /// ```
+    fn text_with_width(place: &'a D, text: CowStr<'a>, width: usize) -> Result<Self, BuildError>
+        ensures { to.Builds result Self.tree (TextWithLen width (cow_str_bytes text.entry)) };
+
     /// What `{}` shows of the value: an empty text where it shows nothing. It counts as its bytes if it is ASCII, and
     /// else as its display width.
     ///
@@ -246,6 +254,10 @@ impl<'a, D: DocPlace<'a, Doc = T>, T: DocPtr<'a>> PlacedDoc<'a, D> for T {
 
     fn text(place: &'a D, text: CowStr<'a>) -> Result<T, BuildError> {
         placed(place.text(text))
+    }
+
+    fn text_with_width(place: &'a D, text: CowStr<'a>, width: usize) -> Result<T, BuildError> {
+        placed(place.text_with_width(text, width))
     }
 
     fn as_string<V: fmt::Display + Drop>(place: &'a D, value: V) -> Result<T, BuildError> {

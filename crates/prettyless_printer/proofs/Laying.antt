@@ -621,5 +621,5 @@ spends_laid {r} {a} {t} {v} p q x tasks queue probes rises counted h =
       queue = λ none. queue ∙ none;
       capped = λ most l m. omega (arith, l, probes);
       have = λ k. (subst HaveSummaries (sym tasks) k.0.1, tt);
-      few = λ is_true width small k. (0, omega (arith, probes), omega (arith, rises));
+      few = λ is_true small k. (0, omega (arith, probes), omega (arith, rises));
     })

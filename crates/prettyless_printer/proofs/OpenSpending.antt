@@ -5,7 +5,6 @@ use Rattle.std.proofs.Math.Seq.{take-nil}
 use Rattle.std.proofs.lemmas.List.Sums.{sum_by-append}
 use Rattle.std.specs.List.{sum_by}
 use Rattle.prettyless_sink.specs.declared.visits.Visits.{Visits}
-use Rattle.prettyless_model.specs.declared.options.RenderOptions.{RenderOptions}
 use Rattle.prettyless_model.specs.declared.mode.Mode.TheVariants.{Break}
 use Rattle.prettyless_model.specs.Tree.{Tree, size}
 use Rattle.prettyless_model.specs.Content.{suffix_depth}
@@ -24,16 +23,7 @@ use Rattle.prettyless_printer.proofs.TrialSteps.{began_plain}
 use Rattle.prettyless_printer.proofs.Spending.{on_tasks, spends_then}
 use Rattle.prettyless_printer.proofs.Standings.{Pushed}
 
--- ---- Options and line suffixes
-
--- the options of open trials are those of the outermost one
-chain_options : (o : Trial) (us : List Held) (t : Trial) → Chain o us t → t.start.printer.options ≡ o.start.printer.options
-chain_options o [] t h = ap (λ (x : Trial). x.start.printer.options) h
-chain_options o (u ∷ us) t h = chain_options h.0 us t h.2 ∙ h.1.choice.waiting.options
-
-pub open_options : (s : Trial) (y : Tree) (b : Point) (us : List Held) → Open s y us b → b.printer.options ≡ s.start.printer.options
-open_options s y b [] h = absurd h
-open_options s y b (u ∷ us) h = h.on.path.options ∙ chain_options s us h.trial h.chain
+-- ---- Line suffixes
 
 -- A trial without line suffixes.
 record PlainTrial (t : Trial) : Type 0 where
@@ -66,7 +56,7 @@ spends_beside {q'} ds h = record {
   queue = h.queue;
   capped = λ most l m. h.capped most l (omega (arith, m));
   have = λ g. ((h.have (g.0, tt)).0, g.1);
-  few = λ t width small g. h.few t width (omega (arith, small)) (g.0, tt);
+  few = λ t small g. h.few t (omega (arith, small)) (g.0, tt);
 }
 
 -- In an outermost trial without line suffixes, trials were open at a point, and trials are open at another one.
@@ -78,15 +68,11 @@ pub record OpenBetween (s : Trial) (y : Tree) (us vs : List Held) (a b : Point) 
 -- the innermost of open trials takes a turn, or comes to its end
 pub open_spends : {has : Bool} {limit : ℕ} {s : Trial} {y : Tree} {us vs : List Held} {a b : Point} {start : Left} {ts : List Task}
     {q : List Tree} {w : Visits} → OpenBetween s y us vs a b →
-    Spends (rule_of has a.printer.options limit) start (left b.printer (seconds vs) b.visits) →
-    (Plain b.printer → Spends (rule_of has b.printer.options limit) (left b.printer [] b.visits) (on_tasks ts q w)) →
-    Spends (rule_of has a.printer.options limit) start (record (on_tasks ts q w) { seconds = seconds vs })
-open_spends {has} {limit} {s} {y} {us} {vs} {a} {b} {ts} {q} {w} between h k =
-    let same = open_options s y b vs between.now ∙ sym (open_options s y a us between.before) in
-    spends_then h
-    (subst (λ (o : RenderOptions). Spends (rule_of has o limit) (left b.printer (seconds vs) b.visits)
-    (record (on_tasks ts q w) { seconds = seconds vs })) same
-    (spends_beside (seconds vs) (k (open_plain s y b vs between.now between.plain))))
+    Spends (rule_of has limit) start (left b.printer (seconds vs) b.visits) →
+    (Plain b.printer → Spends (rule_of has limit) (left b.printer [] b.visits) (on_tasks ts q w)) →
+    Spends (rule_of has limit) start (record (on_tasks ts q w) { seconds = seconds vs })
+open_spends {has} {limit} {s} {y} {us} {vs} {a} {b} between h k =
+    spends_then h (spends_beside (seconds vs) (k (open_plain s y b vs between.now between.plain)))
 
 -- what ended in an error has nothing left
 pub spends_error_as : {A E : Type 0} {r : Rule} {a : Left} (b : Left) (result : Result A E) → IsErr result → Spends r a (none_left b.visits)
@@ -110,7 +96,7 @@ spends_leaving r h = record {
   queue = h.queue;
   capped = λ most l m. omega (arith, l, ap (λ (v : Visits). v.probes) h.visits);
   have = h.have;
-  few = λ t width small g. (
+  few = λ t small g. (
     0,
     omega (arith, ap (λ (v : Visits). v.probes) h.visits),
     omega (arith, ap (λ (v : Visits). v.printer) h.visits),

@@ -196,7 +196,7 @@ counted_with o d v w n (Err e) h = tt
 -- a run to the end, from a document that is the only task, is a render
 pub renders : {A E : Type 0} (fails : E → Type 0) (d : Tree) {a b : Point} (n : ℕ) (r : Result A (RenderError E))
     → a.printer.tasks ≡ make_task 0 Break d ∷ [] → state_at a.printer ≡ initial → RunsToEnd fails a b r →
-    a.visits.refused ≤ n → (IsLinear a.printer.options.width d → n ≡ 0 → IsLinearBound 16 1000 (size d) a.visits b.visits) →
+    a.visits.refused ≤ n → (IsLinear d → n ≡ 0 → IsLinearBound 16 1000 (size d) a.visits b.visits) →
     Renders fails a.printer.options d a.sink b.sink a.visits (record b.visits { refused = n }) r
 renders fails d {a} {b} n r e s h refused few = record {
   same_lender = h.same_lender;

@@ -1,34 +1,24 @@
 -- What a run has left while its nodes leave, outside of trials and in choices.
-use Rattle.std.proofs.Common.{◌≡◌, ℕ, ◌<◌, List, [], ◌∷◌, length, ap, sym, ◌∙◌, arith, subst, Bool, Result, Ok, Err}
+use Rattle.std.proofs.Common.{◌≡◌, ℕ, ◌<◌, List, [], ◌∷◌, length, ap, sym, arith, subst, Bool, Result, Ok, Err}
 use Rattle.prettyless_sink.specs.declared.visits.Visits.{Visits}
-use Rattle.prettyless_model.specs.declared.options.RenderOptions.{RenderOptions}
 use Rattle.prettyless_model.specs.declared.mode.Mode.TheVariants.{Break}
 use Rattle.prettyless_model.specs.Tree.{Tree}
 use Rattle.prettyless_probe.specs.Stack.{make_task}
-use Rattle.prettyless_printer.specs.declared.answer.RunResult.{RunResult}
-use Rattle.prettyless_printer.specs.declared.answer.RunResult.TheVariants as run_result
 use Rattle.prettyless_printer.specs.Points.{Standing, state_at, Seen, Point}
 use Rattle.prettyless_printer.specs.Visits.{Plain}
 use Rattle.prettyless_printer.specs.Open.{BeginsTrial, Held, Opens, seconds}
-use Rattle.prettyless_printer.specs.Paths.{Chooses, Path, PathToChoice, run_of}
+use Rattle.prettyless_printer.specs.Paths.{Path, PathToChoice, run_of}
 use Rattle.prettyless_printer.specs.Renders.{Continues, RunsCommands}
 use Rattle.prettyless_printer.specs.Runs.{RunReachesChoice}
 use Rattle.prettyless_printer.specs.Spending.{IsPlainChoice, Left, Rule, Spends, SpendsAs, left, left_choice, rule_of}
 use Rattle.prettyless_printer.proofs.Spending.{spends_same, spends_then}
-use Rattle.prettyless_printer.proofs.OpenSpending.{open_options, spends_more}
+use Rattle.prettyless_printer.proofs.OpenSpending.{spends_more}
 
--- runs in a row, of which the second one has the options of the first
-pub spends_on : {has : Bool} {limit : ℕ} {o o' : RenderOptions} {a b c : Left} → o' ≡ o → Spends (rule_of has o limit) a b
-    → Spends (rule_of has o' limit) b c → Spends (rule_of has o limit) a c
-spends_on {has} {limit} {o'} {b} {c} same h k =
-    spends_then h (subst (λ (x : RenderOptions). Spends (rule_of has x limit) b c) same k)
-
--- the same where the second one may have ended in an error
-pub spends_on_as : {A E : Type 0} {has : Bool} {limit : ℕ} {o o' : RenderOptions} {a b : Left} (c : Left) (result : Result A E) → o' ≡ o
-    → Spends (rule_of has o limit) a b → SpendsAs (rule_of has o' limit) b c result →
-    SpendsAs (rule_of has o limit) a c result
-spends_on_as {o'} c (Ok x) same h k = spends_on same h k
-spends_on_as {o'} c (Err e) same h k = spends_on same h k
+-- runs in a row, of which the second one may have ended in an error
+pub spends_then_as : {A E : Type 0} {r : Rule} {a b : Left} (c : Left) (result : Result A E) → Spends r a b → SpendsAs r b c result
+    → SpendsAs r a c result
+spends_then_as c (Ok x) h k = spends_then h k
+spends_then_as c (Err e) h k = spends_then h k
 
 -- outside of trials no second branch waits
 pub seconds_none : {r : Rule} {a : Left} (p : Standing) (us : List Held) (v : Visits) → us ≡ [] → Spends r a (left p (seconds us) v)
@@ -45,10 +35,10 @@ from_none {r} {b} p us v none h = subst (λ (z : List Held). Spends r (left p (s
 
 -- a run of all commands has reached a point, and goes on there
 pub path_spends : {has : Bool} {limit : ℕ} {a b : Point} {c : Left} → Path (run_of a) b → Plain a.printer →
-    Spends (rule_of has a.printer.options limit) (left a.printer [] a.visits) (left b.printer [] b.visits) →
-    (Plain b.printer → Spends (rule_of has b.printer.options limit) (left b.printer [] b.visits) c) →
-    Spends (rule_of has a.printer.options limit) (left a.printer [] a.visits) c
-path_spends path plain h k = spends_on path.options h (k (path.at_most (plain.none, plain.pending)).0)
+    Spends (rule_of has limit) (left a.printer [] a.visits) (left b.printer [] b.visits) →
+    (Plain b.printer → Spends (rule_of has limit) (left b.printer [] b.visits) c) →
+    Spends (rule_of has limit) (left a.printer [] a.visits) c
+path_spends path plain h k = spends_then h (k (path.at_most (plain.none, plain.pending)).0)
 
 plain_waiting : {a b : Point} {i : ℕ} {x y : Tree} → PathToChoice (run_of a) i x y b → Plain a.printer → IsPlainChoice b.printer x y
 plain_waiting waiting plain =
@@ -58,11 +48,11 @@ plain_waiting waiting plain =
 -- a choice is made, or is open
 pub waiting_spends : {has : Bool} {limit : ℕ} {a b : Point} {start c : Left} {i : ℕ} {x y : Tree} → PathToChoice (run_of a) i x y b
     → Plain a.printer →
-    Spends (rule_of has a.printer.options limit) start (left_choice i x y b.printer b.visits) →
-    (IsPlainChoice b.printer x y → Spends (rule_of has b.printer.options limit) (left_choice i x y b.printer b.visits) c) →
-    Spends (rule_of has a.printer.options limit) start c
+    Spends (rule_of has limit) start (left_choice i x y b.printer b.visits) →
+    (IsPlainChoice b.printer x y → Spends (rule_of has limit) (left_choice i x y b.printer b.visits) c) →
+    Spends (rule_of has limit) start c
 waiting_spends waiting plain h k =
-    spends_on waiting.options h (k (plain_waiting waiting plain))
+    spends_then h (k (plain_waiting waiting plain))
 
 -- the trial of a choice is opened, and no other one is open
 pub opens_spends : {N : Type 0} {r : Rule} {f : N → Tree} {p q : Standing} {s : Seen} {us vs : List Held} {i : ℕ} {x y : Tree} {v : Visits}
@@ -82,10 +72,3 @@ nothing_pending fails x h plain k some = omega (arith, some, ap length (k.at_mos
 pub came_plain : {a : Point} {us : List Held} {buffer : Seen} {b : Point} (h : RunReachesChoice a us buffer b) → Plain a.printer
     → IsPlainChoice h.at.printer h.first h.second
 came_plain h plain = plain_waiting h.waiting (h.continues.at_most plain).0
-
--- the options are those of where the choice waited
-pub came_options : {E : Type 0} {a : Point} {us : List Held} {buffer : Seen} {b c : Point} (h : RunReachesChoice a us buffer b)
-    → Chooses {A = RunResult} {E = E} h.indent h.first h.second h.at c (Ok run_result.Finished) →
-    c.printer.options ≡ b.printer.options
-came_options {us} {c} h k =
-    (k.runs (run_of h.c) h.waiting).options ∙ sym h.waiting.options ∙ sym (open_options _ h.second _ us h.choice.trials)

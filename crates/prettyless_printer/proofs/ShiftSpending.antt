@@ -3,7 +3,6 @@
 use Rattle.std.proofs.Common.{◌≡◌, ℕ, ◌+◌, ◌*◌, ◌-◌, ◌^◌, ◌≤◌, ◌<◌, List, [], ◌∷◌, Bool, true, length, refl, ap, sym, subst, arith, min}
 use Rattle.std.specs.List.{sum_by}
 use Rattle.prettyless_sink.specs.declared.visits.Visits.{Visits}
-use Rattle.prettyless_model.specs.declared.options.RenderOptions.{RenderOptions}
 use Rattle.prettyless_model.specs.Tree.{Tree, size}
 use Rattle.prettyless_probe.specs.Stack.{nodes, trees}
 use Rattle.prettyless_step.specs.declared.printer.Printer.{Printer}
@@ -40,10 +39,10 @@ pub within_still : {n : ℕ} {v w x : Visits} (p : Standing) (ds : List Tree) �
 within_still {n} {v} {w} {x} p ds same h = subst (λ (z : Visits). Within n v (left p ds z)) (sym same) h
 
 -- it goes on to the limit
-pub within_goes : {n : ℕ} {v : Visits} {a b : Left} (has : Bool) (o : RenderOptions) (g : ShiftPolicy) (limit : ℕ) →
+pub within_goes : {n : ℕ} {v : Visits} {a b : Left} (has : Bool) (g : ShiftPolicy) (limit : ℕ) →
     limit ≡ probe_limit g a.visits
-    → g.start ≡ v → g.next_try ≤ n → Within n v a → Spends (rule_of has o limit) a b → Within n v b
-within_goes {n} {v} {a} {b} has o g limit is start next h k =
+    → g.start ≡ v → g.next_try ≤ n → Within n v a → Spends (rule_of has limit) a b → Within n v b
+within_goes {n} {v} {a} {b} has g limit is start next h k =
     let most : ℕ = v.probes + (16 * n + 1000) - 2 * left_nodes a in
     let low : limit + left_nodes a ≤ most =
     omega (arith, is, next, h.left, h.printer, ap (λ (x : Visits). x.probes) start, ap (λ (x : Visits). x.printer) start) in
@@ -61,23 +60,23 @@ pub within_few : {n : ℕ} {v : Visits} {l : Left} → Within n v l → IsLinear
 within_few {n} {v} {l} h room = omega (arith, h.probes)
 
 -- what is left over a table visits two nodes for each visit of the printer
-pub over_table : (o : RenderOptions) {limit : ℕ} {a : Left} {w : Visits} → Spends (rule_of true o limit) a (none_left w) → o.width < 2 ^ 32
-    → left_nodes a < 2 ^ 32 → AllHaveSummaries a →
+pub over_table : {limit : ℕ} {a : Left} {w : Visits} → Spends (rule_of true limit) a (none_left w) → left_nodes a < 2 ^ 32
+    → AllHaveSummaries a →
     a.visits.printer + left_nodes a < 2 ^ 64 - 1 → w.probes ≤ a.visits.probes + 2 * left_nodes a
-over_table o {limit} {a} {w} h width small have room =
-    let k = h.few refl width small have in
+over_table {limit} {a} {w} h small have room =
+    let k = h.few refl small have in
     omega (arith, k.1, k.2, h.printer, room)
 
-pub within_over : {n : ℕ} {v w : Visits} {a : Left} (o : RenderOptions) {limit : ℕ} → Within n v a
-    → Spends (rule_of true o limit) a (none_left w) → o.width < 2 ^ 32 → n ≤ 4294967294 → IsLinearBound 16 1000 n v w
-within_over {n} {v} {w} {a} o {limit} h k width small room =
-    omega (arith, over_table o k width (omega (arith, h.left, small)) h.have (omega (arith, h.printer, room)), h.probes)
+pub within_over : {n : ℕ} {v w : Visits} {a : Left} {limit : ℕ} → Within n v a → Spends (rule_of true limit) a (none_left w)
+    → n ≤ 4294967294 → IsLinearBound 16 1000 n v w
+within_over {n} {v} {w} {a} {limit} h k small room =
+    omega (arith, over_table k (omega (arith, h.left, small)) h.have (omega (arith, h.printer, room)), h.probes)
 
 -- over a table from the first node on
-pub all_over : {w v : Visits} {p : Standing} {limit : ℕ} → IsLinearStart p → Spends (rule_of true p.options limit) (left p [] v)
+pub all_over : {w v : Visits} {p : Standing} {limit : ℕ} → IsLinearStart p → Spends (rule_of true limit) (left p [] v)
     (none_left w) → IsLinearBound 2 0 (nodes p.tasks) v w
 all_over {w} {v} {p} {limit} linear k room =
-    omega (arith, over_table p.options k linear.width (omega (arith, linear.size)) (linear.have, tt) (omega (arith, room)))
+    omega (arith, over_table k (omega (arith, linear.size)) (linear.have, tt) (omega (arith, room)))
 
 -- twice as many are few
 pub few_more : (n : ℕ) (v w : Visits) → IsLinearBound 2 0 n v w → IsLinearBound 16 1000 n v w

@@ -1,5 +1,5 @@
 -- The shift: over a table a run stands where it stood, with the same trials open.
-use Rattle.std.proofs.Common.{◌≡◌, ℕ, ◌≤◌, List, [], append-nil, Err, Result, true, refl, ap, sym, ◌∙◌, ◌∷◌, arith, subst}
+use Rattle.std.proofs.Common.{◌≡◌, ℕ, ◌≤◌, List, [], append-nil, Err, Result, refl, ap, sym, arith, subst}
 use Rattle.std.specs.declared.alloc.AllocError.{AllocError}
 use Rattle.prettyless_sink.specs.Sink.{known}
 use Rattle.prettyless_sink.specs.declared.error.RenderError.{RenderError}
@@ -17,13 +17,12 @@ use Rattle.prettyless_printer.specs.Points.{Point, Seen, Standing, point_at, sta
 use Rattle.prettyless_printer.specs.Visits.{suffix_depths}
 use Rattle.prettyless_printer.specs.Linear.{IsLinearBound, IsLinear, IsLinearStart}
 use Rattle.prettyless_printer.specs.Open.{Held, all_held, seconds}
-use Rattle.prettyless_printer.specs.Spending.{Left, Spends, left, rule_of}
+use Rattle.prettyless_printer.specs.Spending.{Left, Rule, Spends, left}
 use Rattle.prettyless_printer.specs.Runs.{RunReaches}
 use Rattle.prettyless_printer.specs.Renders.{Begins, EndsAnywhere, Renders, RunsToEnd}
 use Rattle.prettyless_printer.proofs.Renders.{renders}
 use Rattle.prettyless_printer.proofs.Visits.{rise_same}
 use Rattle.prettyless_printer.proofs.Shifts.{continues_same}
-use Rattle.prettyless_printer.proofs.OpenSpending.{open_options}
 
 -- a printer over other nodes stands where this one does
 pub shifted_stands : {N M : Type 0} (f : N → Tree) (g : M → Tree) (p : Printer N) (q : Printer M) → IsShifted f g p q
@@ -45,18 +44,11 @@ comes_over a {us} {vs} {p} {q} buffer s v same stands comes =
     (subst (λ (x : Standing). RunReaches a us buffer (point_at x s v)) (sym stands) comes)
 
 -- what it leaves then is what it leaves over the other nodes
-pub spends_over : {o o' : RenderOptions} {limit : ℕ} {us vs : List Held} {p q : Standing} {v : Visits} {b : Left} → vs ≡ us
-    → q ≡ p → o' ≡ o →
-    Spends (rule_of true o' limit) (left q (seconds vs) v) b → Spends (rule_of true o limit) (left p (seconds us) v) b
-spends_over {o} {o'} {limit} {us} {vs} {p} {q} {v} {b} same stands options h =
-    subst (λ (x : List Held). Spends (rule_of true o limit) (left p (seconds x) v) b) same
-    (subst (λ (x : Standing). Spends (rule_of true o limit) (left x (seconds vs) v) b) stands
-    (subst (λ (x : RenderOptions). Spends (rule_of true x limit) (left q (seconds vs) v) b) options h))
-
--- the options are those from where a run came
-pub comes_options : (a b : Point) (us : List Held) (buffer : Seen) → RunReaches a us buffer b → b.printer.options ≡ a.printer.options
-comes_options a b [] buffer h = h.options
-comes_options a b (u ∷ us) buffer h = open_options _ h.second _ (u ∷ us) h.choice.trials ∙ h.waiting.options ∙ h.continues.options
+pub spends_over : {r : Rule} {us vs : List Held} {p q : Standing} {v : Visits} {b : Left} → vs ≡ us → q ≡ p
+    → Spends r (left q (seconds vs) v) b → Spends r (left p (seconds us) v) b
+spends_over {r} {us} {vs} {p} {q} {v} {b} same stands h =
+    subst (λ (x : List Held). Spends r (left p (seconds x) v) b) same
+    (subst (λ (x : Standing). Spends r (left x (seconds vs) v) b) stands h)
 
 -- nothing has changed
 pub comes_still : (a : Point) (us : List Held) (p : Standing) {b c s t : Seen} {v w : Visits} → t ≡ s → w ≡ v → c ≡ b
@@ -80,7 +72,7 @@ comes_first f us buffer a none =
     subst (λ (xs : List (OpenTrial _)). RunReaches a (all_held f xs) buffer a) (sym none) (continues_same a)
 
 -- a document that a table bounds
-pub begins_linear : {o : RenderOptions} {d : Tree} {p : Standing} → Begins o d p → IsLinear o.width d → IsLinearStart p
+pub begins_linear : {o : RenderOptions} {d : Tree} {p : Standing} → Begins o d p → IsLinear d → IsLinearStart p
 begins_linear {o} {d} {p} begins linear = record {
   plain = record {
     none = omega (arith, ap suffix_depths begins.tasks, linear.plain);
@@ -90,7 +82,6 @@ begins_linear {o} {d} {p} begins linear = record {
   queue = begins.queue;
   have = subst HaveSummaries (sym begins.tasks) (linear.have, tt);
   size = omega (arith, ap nodes begins.tasks, linear.size);
-  width = omega (arith, ap (λ (x : RenderOptions). x.width) begins.options, linear.narrow);
 }
 
 -- its nodes are those of the printer before it
@@ -112,8 +103,7 @@ pub begun_renders : {A E : Type 0} (fails : E → Type 0) {o : RenderOptions} {d
 begun_renders fails {o} {d} {a} {b} n r begins ran refused few =
     subst (λ (x : RenderOptions). Renders fails x d a.sink b.sink a.visits (record b.visits { refused = n }) r) begins.options
     (renders fails d n r begins.tasks begins.state ran refused
-    (λ linear none. begins_few 16 1000 a.visits b.visits begins
-    (few (begins_linear begins (subst (λ (x : RenderOptions). IsLinear x.width d) begins.options linear)) none)))
+    (λ linear none. begins_few 16 1000 a.visits b.visits begins (few (begins_linear begins linear) none)))
 
 -- a render that is refused memory before its first node
 pub refused_renders : {A E : Type 0} (fails : E → Type 0) (o : RenderOptions) (d : Tree) (s : Seen) (v : Visits) (e : AllocError)

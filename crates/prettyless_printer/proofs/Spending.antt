@@ -1,5 +1,5 @@
 -- What is left of a run while its nodes leave: one step, and runs in a row.
-use Rattle.std.proofs.Common.{◌≡◌, ℕ, ◌+◌, ◌*◌, ◌^◌, ◌≤◌, ◌<◌, List, [], ◌∷◌, ◌++◌, Bool, false, refl, ap, sym, ◌∙◌, arith, subst}
+use Rattle.std.proofs.Common.{◌≡◌, ℕ, ◌+◌, ◌*◌, ◌≤◌, ◌<◌, List, [], ◌∷◌, ◌++◌, Bool, false, refl, ap, sym, ◌∙◌, arith, subst}
 use Rattle.prettyless_sink.specs.Sink.{rise}
 use Rattle.prettyless_sink.specs.declared.visits.Visits.{Visits}
 use Rattle.prettyless_model.specs.declared.options.RenderOptions.{RenderOptions}
@@ -57,7 +57,7 @@ spends_same r a = record {
   queue = λ e. e;
   capped = λ most l h. l;
   have = λ h. h;
-  few = λ t w s h. (0, omega arith, omega arith);
+  few = λ t s h. (0, omega arith, omega arith);
 }
 
 -- runs in a row
@@ -68,9 +68,9 @@ spends_then h k = record {
   queue = λ e. k.queue (h.queue e);
   capped = λ most l m. k.capped most (h.capped most l m) (omega (arith, m, h.nodes));
   have = λ x. k.have (h.have x);
-  few = λ t w s x.
-      let p = h.few t w s x in
-      let q = k.few t w (omega (arith, s, h.nodes)) (h.have x) in
+  few = λ t s x.
+      let p = h.few t s x in
+      let q = k.few t (omega (arith, s, h.nodes)) (h.have x) in
       (p.0 + q.0, omega (arith, p.1, q.1), omega (arith, p.2, q.2));
 }
 
@@ -90,7 +90,7 @@ pub record StepVisits (r : Rule) (t : Task) (ts : List Task) (v x : Visits) : Ty
   pub asks : 0 < each_probe t.tree t.mode → v.probes ≤ r.limit
   pub least : rise v.printer ≤ x.printer
   pub counted : x.probes ≤ v.probes + asked t.tree t.mode (nodes ts)
-  pub few : r.width < 2 ^ 32 → AllSummed r.has t.tree ts → x.probes ≤ v.probes + 2 * each_probe t.tree t.mode
+  pub few : AllSummed r.has t.tree ts → x.probes ≤ v.probes + 2 * each_probe t.tree t.mode
 
 -- what is left with these tasks, outside of trials
 abbrev pub on_tasks : List Task → List Tree → Visits → Left
@@ -106,10 +106,10 @@ step_spends {r} {t} {ts} {q'} one counts have queue = record {
   queue = queue;
   capped = λ most l m. capped_one t.tree t.mode (nodes ts) one.asks one.counted most l (omega (arith, m));
   have = λ h. (have h.0, tt);
-  few = λ is_true width small h.
+  few = λ is_true small h.
       let all : AllSummed r.has t.tree ts =
       record { summaries = is_true; own = h.0.0; small = omega (arith, small); below = (h.0.1, omega (arith, small)) } in
-      (1, omega (arith, one.few width all, each_probe_one t.tree t.mode), omega (arith, one.least));
+      (1, omega (arith, one.few all, each_probe_one t.tree t.mode), omega (arith, one.least));
 }
 
 have_append : (ts us : List Task) → HaveSummaries ts → HaveSummaries us → HaveSummaries (ts ++ us)
@@ -149,9 +149,9 @@ pub record TakesTask {N : Type 0} (f : N → Tree) (r : Rule) (a : Point) (t : T
 pub takes : {N : Type 0} (f : N → Tree) {has : Bool} {limit : ℕ} {a : Point} {t : Task} (p : Printer N) {s : Seen} {v x : Visits}
     → InHand a t (point f p s v) → Visit a.printer.options t (point f p s v) x →
     (0 < each_probe t.tree t.mode → v.probes ≤ limit) → x.probes ≤ v.probes + asked t.tree t.mode (nodes (tasks_of f p))
-    → Few has p.options.width t.tree (tasks_of f p) (each_probe t.tree t.mode) v.probes x.probes →
-    (Plain a.printer → Spends (rule_of has a.printer.options limit) (left a.printer [] a.visits) (left_with t (standing f p) v)) →
-    TakesTask f (rule_of has a.printer.options limit) a t p s v x
+    → Few has t.tree (tasks_of f p) (each_probe t.tree t.mode) v.probes x.probes →
+    (Plain a.printer → Spends (rule_of has limit) (left a.printer [] a.visits) (left_with t (standing f p) v)) →
+    TakesTask f (rule_of has limit) a t p s v x
 takes f p hand one asks counted few spent = record {
   hand = hand;
   one = one;
@@ -159,7 +159,7 @@ takes f p hand one asks counted few spent = record {
     asks = asks;
     least = one.least;
     counted = counted;
-    few = λ w all. few (omega (arith, w, ap (λ (o : RenderOptions). o.width) hand.options)) all;
+    few = few;
   };
   spent = spent;
 }

@@ -153,7 +153,7 @@ pub record Renders {A E : Type 0} (fails : E → Type 0) (o : RenderOptions) (d 
   -- refusals of memory for a table are counted
   pub refused : v.refused ≤ w.refused
   -- where a table bounds the probes, and none was refused memory, they visit at most sixteen nodes for each node, and a thousand
-  pub few : IsLinear o.width d → w.refused ≡ 0 → IsLinearBound 16 1000 (size d) v w
+  pub few : IsLinear d → w.refused ≡ 0 → IsLinearBound 16 1000 (size d) v w
   -- on success, at least the nodes that the layout lays are counted, and the probes that it needs
   pub at_least : OnOk r (VisitedAtLeast o d v w)
 

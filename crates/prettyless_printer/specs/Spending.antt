@@ -3,7 +3,6 @@
 use Rattle.std.specs.Prelude.{◌≡◌, ℕ, ◌+◌, ◌*◌, ◌^◌, ◌≤◌, ◌<◌, Bool, IsTrue, List, [], ◌∷◌, Option, Some, None, Result, Ok, Err}
 use Rattle.std.specs.List.{sum_by}
 use Rattle.prettyless_sink.specs.declared.visits.Visits.{Visits}
-use Rattle.prettyless_model.specs.declared.options.RenderOptions.{RenderOptions}
 use Rattle.prettyless_model.specs.Tree.{Tree, size}
 use Rattle.prettyless_model.specs.Content.{suffix_depth}
 use Rattle.prettyless_model.specs.declared.mode.Mode.TheVariants.{Break}
@@ -41,15 +40,14 @@ left_nodes l = nodes l.tasks + sum_by size l.seconds
 abbrev pub AllHaveSummaries : Left → Type 0
 AllHaveSummaries l = HaveSummaries l.tasks × TreesHaveSummaries l.seconds
 
--- What bounds the probes of a run: whether its nodes have summaries, its width, and the count past which none is started.
+-- What bounds the probes of a run: whether its nodes have summaries, and the count past which none is started.
 pub record Rule : Type 0 where
   pub has : Bool
-  pub width : ℕ
   pub limit : ℕ
 
--- the rule of a run, whose nodes have summaries or not, with options, which stops at a limit
-abbrev pub rule_of : Bool → RenderOptions → ℕ → Rule
-rule_of has o limit = record { has = has; width = o.width; limit = limit }
+-- the rule of a run, whose nodes have summaries or not, which stops at a limit
+abbrev pub rule_of : Bool → ℕ → Rule
+rule_of has limit = record { has = has; limit = limit }
 
 -- a count is no more than it was, or than n more than a limit
 abbrev pub Capped : ℕ → ℕ → ℕ → ℕ → Type 0
@@ -71,7 +69,7 @@ pub record Spends (r : Rule) (a b : Left) : Type 0 where
   -- summaries lead to summaries
   pub have : AllHaveSummaries a → AllHaveSummaries b
   -- where all is summed up, a probe visits two nodes
-  pub few : IsTrue r.has → r.width < 2 ^ 32 → left_nodes a < 2 ^ 32 → AllHaveSummaries a → TwoEach a.visits b.visits
+  pub few : IsTrue r.has → left_nodes a < 2 ^ 32 → AllHaveSummaries a → TwoEach a.visits b.visits
 
 -- what a run leaves: after an error, nothing is left
 abbrev pub SpendsAs : {A E : Type 0} → Rule → Left → Left → Result A E → Type 0

@@ -76,8 +76,8 @@ pub fn render<N: Walk, W: Render>(
 
 /// Renders the document of a node as `render` does, over a table of all of its nodes from the first one on: each probe takes two
 /// visits where no choice by column or nesting stands in what it reads. A document that is rendered so takes two to four times as
-/// long as most documents take without a table. It is rendered as by `render` where memory for the table is refused, where it has
-/// more than 1,048,576 nodes, and at widths of 2^32 columns or more.
+/// long as most documents take without a table. It is rendered as by `render` where memory for the table is refused, and where it
+/// has more than 1,048,576 nodes.
 pub fn render_over_table<N: Walk, W: Render>(
     alloc: Global,
     node: N,
@@ -88,7 +88,7 @@ pub fn render_over_table<N: Walk, W: Render>(
     ensures renders { Renders (W.document_errors out.new) options (N.tree node)
         (seen W.bytes W.failures W.lender out.old) (seen W.bytes W.failures W.lender out.new)
         visits.old visits.new result }
-    ensures twice { BoundedByTable options.width (N.tree node) visits.old visits.new }
+    ensures twice { BoundedByTable (N.tree node) visits.old visits.new }
 {
     match printer_before(alloc, node, options) {
         Ok(mut printer) => {

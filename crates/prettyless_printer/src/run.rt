@@ -42,7 +42,7 @@ fn resume_choice<N: Walk, W: Render>(
         (point N.tree printer.new (seen W.bytes W.failures W.lender out.new) visits.new) result }
     ensures spends { (i : ℕ) (x y : Tree) (a : Point) → InChoice i x y a (all_held N.tree trials.old.open.items)
         (buffer_seen buffer.old) (point N.tree printer.old (seen W.bytes W.failures W.lender out.old) visits.old) →
-        IsPlainChoice a.printer x y → SpendsAs (rule_of N.HAS_SUMMARIES printer.old.options limit)
+        IsPlainChoice a.printer x y → SpendsAs (rule_of N.HAS_SUMMARIES limit)
         (left (standing N.tree printer.old) (seconds (all_held N.tree trials.old.open.items)) visits.old)
         (left (standing N.tree printer.new) (seconds (all_held N.tree trials.new.open.items)) visits.new) result }
     ensures summed { OnOk result (IsSummed N.HAS_SUMMARIES N.tree printer.new.commands) }
@@ -77,7 +77,7 @@ fn choose<N: Walk, W: Render>(
         (all_held N.tree trials.new.open.items) (buffer_seen buffer.new)
         (point N.tree printer.new (seen W.bytes W.failures W.lender out.new) visits.new) result }
     ensures spends { IsPlainChoice (standing N.tree printer.old) (N.tree first) (N.tree second) → SpendsAs
-        (rule_of N.HAS_SUMMARIES printer.old.options limit)
+        (rule_of N.HAS_SUMMARIES limit)
         (left_choice indent (N.tree first) (N.tree second) (standing N.tree printer.old) visits.old)
         (left (standing N.tree printer.new) (seconds (all_held N.tree trials.new.open.items)) visits.new) result }
     ensures summed { OnOk result (IsSummed N.HAS_SUMMARIES N.tree printer.new.commands) }
@@ -106,7 +106,7 @@ fn run_commands<N: Walk, W: Render>(
         (all_held N.tree trials.new.open.items) (buffer_seen buffer.new)
         (point N.tree printer.new (seen W.bytes W.failures W.lender out.new) visits.new) result }
     ensures spends { Plain (standing N.tree printer.old) → SpendsAs
-        (rule_of N.HAS_SUMMARIES printer.old.options limit)
+        (rule_of N.HAS_SUMMARIES limit)
         (left (standing N.tree printer.old) [] visits.old)
         (left (standing N.tree printer.new) (seconds (all_held N.tree trials.new.open.items)) visits.new) result }
     ensures summed { OnOk result (IsSummed N.HAS_SUMMARIES N.tree printer.new.commands) }
@@ -166,7 +166,7 @@ fn run_to_end<N: Walk, W: Render>(
         (all_held N.tree trials.new.open.items) (buffer_seen buffer.new)
         (point N.tree printer.new (seen W.bytes W.failures W.lender out.new) visits.new) result }
     ensures spends { Plain (standing N.tree printer.old) → SpendsAs
-        (rule_of N.HAS_SUMMARIES printer.old.options limit)
+        (rule_of N.HAS_SUMMARIES limit)
         (left (standing N.tree printer.old) [] visits.old)
         (left (standing N.tree printer.new) (seconds (all_held N.tree trials.new.open.items)) visits.new) result }
     ensures summed { OnOk result (IsSummed N.HAS_SUMMARIES N.tree printer.new.commands) }
@@ -202,7 +202,7 @@ pub(crate) fn resume<N: Walk, W: Render>(
         (point N.tree printer.new (seen W.bytes W.failures W.lender out.new) visits.new) result }
     ensures spends { (a : Point) → RunReaches a (all_held N.tree trials.old.open.items) (buffer_seen buffer.old)
         (point N.tree printer.old (seen W.bytes W.failures W.lender out.old) visits.old) →
-        Plain a.printer → SpendsAs (rule_of N.HAS_SUMMARIES printer.old.options limit)
+        Plain a.printer → SpendsAs (rule_of N.HAS_SUMMARIES limit)
         (left (standing N.tree printer.old) (seconds (all_held N.tree trials.old.open.items)) visits.old)
         (left (standing N.tree printer.new) (seconds (all_held N.tree trials.new.open.items)) visits.new) result }
     ensures summed { OnOk result (IsSummed N.HAS_SUMMARIES N.tree printer.new.commands) }
@@ -229,7 +229,7 @@ pub(crate) fn finish<N: Walk, W: Render>(
     requires summed { IsSummed N.HAS_SUMMARIES N.tree printer.old.commands }
     ensures spends { (a : Point) → RunReaches a (all_held N.tree trials.old.open.items) (buffer_seen buffer.old)
         (point N.tree printer.old (seen W.bytes W.failures W.lender out.old) visits.old) →
-        Plain a.printer → Spends (rule_of N.HAS_SUMMARIES printer.old.options (2 ^ 64 - 1))
+        Plain a.printer → Spends (rule_of N.HAS_SUMMARIES (2 ^ 64 - 1))
         (left (standing N.tree printer.old) (seconds (all_held N.tree trials.old.open.items)) visits.old)
         (none_left visits.new) }
     ensures ends { (a : Point) → RunReaches a (all_held N.tree trials.old.open.items) (buffer_seen buffer.old)

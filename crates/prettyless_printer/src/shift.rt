@@ -20,7 +20,7 @@ ghost use Rattle.prettyless_printer.specs.Spending.{IsUnended, Spends, left, non
 use crate::answer::RunResult;
 use crate::buffer::Buffer;
 use crate::run::{finish, resume};
-use crate::shift_policy::{ROOM_AT_FIRST, ShiftPolicy, can_shift};
+use crate::shift_policy::{ROOM_AT_FIRST, ShiftPolicy};
 use crate::trial::{OpenTrial, Trials};
 use prettyless_model::count::one_more;
 use prettyless_probe::walk::Walk;
@@ -130,7 +130,7 @@ pub(crate) fn shift<N: Walk, W: Render>(
     ensures spends { IfOk result (λ o. IfSome o
         (λ r. (a : Point) → RunReaches a (all_held N.tree trials.now.open.items) (buffer_seen buffer.old)
         (point N.tree printer.now (seen W.bytes W.failures W.lender out.old) visits.old) →
-        Plain a.printer → Spends (rule_of true printer.now.options (2 ^ 64 - 1))
+        Plain a.printer → Spends (rule_of true (2 ^ 64 - 1))
         (left (standing N.tree printer.now) (seconds (all_held N.tree trials.now.open.items)) visits.old)
         (none_left visits.new))) }
     ensures large { IfOk result (λ o. MatchOption o
@@ -170,9 +170,6 @@ pub(crate) fn run_with_shift<N: Walk, W: Render>(
 {
     let mut trials = Trials::new(alloc);
     let mut buffer = Buffer::new(alloc);
-    if !can_shift(printer.options.width) {
-        return finish(printer, &mut trials, &mut buffer, out, visits);
-    }
     let mut policy = ShiftPolicy::new(*visits);
     'rounds: loop {
         let limit = policy.limit(*visits);
@@ -210,9 +207,6 @@ pub(crate) fn run_over_table<N: Walk, W: Render>(
     ensures twice { IsLinearStart (standing N.tree printer.old) → nodes (tasks_of N.tree printer.old) ≤ 1048576 → refused.new ≡ 0 →
         IsLinearBound 2 0 (nodes (tasks_of N.tree printer.old)) visits.old visits.new }
 {
-    if !can_shift(printer.options.width) {
-        return run_with_shift(alloc, printer, out, visits, refused);
-    }
     let trials = Trials::new(alloc);
     let mut buffer = Buffer::new(alloc);
     match shift(

@@ -1,6 +1,6 @@
 //! When a printer shifts: it goes on over a table of what is left where probes have visited much more than the printer.
-//! This file knows counts of visits and the width, and no table.
-ghost use Rattle.std.specs.Prelude.{◌≡◌, ◌^◌, ◌<◌, ◌≤◌, ◌↔◌, IsTrue};
+//! This file knows counts of visits, and no table.
+ghost use Rattle.std.specs.Prelude.{◌≡◌, ◌≤◌};
 
 use prettyless_sink::visits::Visits;
 
@@ -13,15 +13,8 @@ const GRACE: u64 = 1000;
 /// A table may have so many times as many nodes as were visited before it.
 const ROOM: u64 = 4;
 
-/// A table that is made before the first node may have so many. Its cells take 32 MiB at most.
+/// A table that is made before the first node may have so many. Its cells take 40 MiB at most.
 pub(crate) const ROOM_AT_FIRST: u64 = 1_048_576;
-
-/// Whether a table is of use at a width: its summaries hold below 2^32.
-pub(crate) fn can_shift(width: usize) -> bool
-    ensures { IsTrue result ↔ (width < 2 ^ 32) }
-{
-    width <= u32::MAX as usize
-}
 
 /// What a render has to know to shift.
 #[derive(Clone, Copy)]

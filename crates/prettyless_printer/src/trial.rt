@@ -157,7 +157,7 @@ fn advance<N: Walk>(
         (point N.tree printer.new (buffer_seen buffer.new) visits.new) result }
     ensures past { IfOk result (λ c. TrialStopsPast limit visits.new.probes c) }
     ensures spends { Plain (standing N.tree printer.old) → Spends
-        (rule_of N.HAS_SUMMARIES printer.old.options limit)
+        (rule_of N.HAS_SUMMARIES limit)
         (left (standing N.tree printer.old) [] visits.old)
         (after_trial_turn N.tree (standing N.tree printer.new) visits.new result) }
     ensures summed { OnOk result (IsSummed N.HAS_SUMMARIES N.tree printer.new.commands) }
@@ -207,7 +207,7 @@ pub(crate) fn resume_trial<N: Walk>(
         TrialsEnd limit s y (point N.tree printer.new (buffer_seen buffer.new) visits.new) (all_held N.tree trials.new.open.items) result }
     ensures spends { (s : Trial) (y : Tree) → Open s y (all_held N.tree trials.old.open.items)
         (point N.tree printer.old (buffer_seen buffer.old) visits.old) → IsPlainTrial s y → SpendsAs
-        (rule_of N.HAS_SUMMARIES printer.old.options limit)
+        (rule_of N.HAS_SUMMARIES limit)
         (left (standing N.tree printer.old) (seconds (all_held N.tree trials.old.open.items)) visits.old)
         (left (standing N.tree printer.new) (seconds (all_held N.tree trials.new.open.items)) visits.new) result }
     ensures summed { OnOk result (IsSummed N.HAS_SUMMARIES N.tree printer.new.commands) }

@@ -49,7 +49,7 @@ pub fn turn<N: Walk, W: Render>(
         (point N.tree printer.new (seen W.bytes W.failures W.lender out.new) visits.new) result }
     ensures past { IfOk result (λ t. StopsPast limit visits.new.probes t) }
     ensures spends { Plain (standing N.tree printer.old) → Spends
-        (rule_of N.HAS_SUMMARIES printer.old.options limit)
+        (rule_of N.HAS_SUMMARIES limit)
         (left (standing N.tree printer.old) [] visits.old)
         (after_turn N.tree (standing N.tree printer.new) visits.new result) }
     ensures summed { OnOk result (IsSummed N.HAS_SUMMARIES N.tree printer.new.commands) }

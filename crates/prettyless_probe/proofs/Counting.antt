@@ -1,7 +1,5 @@
 -- How many nodes a probe reads, node by node.
 use Rattle.std.proofs.Common.{◌≡◌, ℕ, ◌+◌, ◌-◌, ◌^◌, ◌<◌, ◌≤◌, min, List, [], ◌∷◌, refl, Result, Ok, Err, IfOk, Bool, true, false, ◌&&◌, ap, arith, if◌then◌else◌}
-use Rattle.std.proofs.lemmas.Bool.{le-leb}
-use Rattle.std.proofs.lemmas.Bool.Decides.{nat_tests}
 use Rattle.prettyless_model.specs.Tree as t
 use Rattle.prettyless_model.specs.Tree.{Tree}
 use Rattle.prettyless_model.specs.Choice.{column_holds, nesting_holds}
@@ -14,7 +12,7 @@ use Rattle.prettyless_model.specs.declared.mode.Mode.{Mode}
 use Rattle.prettyless_model.specs.declared.mode.Mode.TheVariants.{Break}
 use Rattle.prettyless_summary.specs.Summary.{has_summary}
 use Rattle.prettyless_probe.specs.Stack.{Task, make_task}
-use Rattle.prettyless_probe.specs.Reads.{by_sums, read_after, reads, reads_all, reads_below, with_below}
+use Rattle.prettyless_probe.specs.Reads.{read_after, reads, reads_all, reads_below, with_below}
 
 -- what is read after one look and then another
 pub after-then : (x : Look) (f : Column → Bool → Look) (g : Column → Bool → ℕ) →
@@ -158,18 +156,6 @@ reads_by_one w i m d ts next c p h =
 pub reads_unknown : (w : ℕ) (t : Task) (ts : List Task) (c : Column) (p : Bool) → has_summary t.tree Break ≡ false →
     reads_below true w false (t ∷ ts) c p ≡ reads_all true w (make_task t.indent Break t.tree ∷ []) (reads_below true w false ts) c p
 reads_unknown w t ts c p h = rw h refl
-
--- ---- Whether summaries are read
-
-pub narrow_by_sums : (has : Bool) (w : ℕ) → has ≡ true → w ≤ 2 ^ 32 - 1 → by_sums has w ≡ true
-narrow_by_sums has w on l = rw (on, le-leb w (2 ^ 32 - 1) l) refl
-
-pub wide_by_sums : (has : Bool) (w : ℕ) → 2 ^ 32 - 1 < w → by_sums has w ≡ false
-wide_by_sums true w l = grind (arith, nat_tests)
-wide_by_sums false w l = refl
-
-pub none_by_sums : (has : Bool) (w : ℕ) → has ≡ false → by_sums has w ≡ false
-none_by_sums has w off = rw off refl
 
 -- ---- Results
 

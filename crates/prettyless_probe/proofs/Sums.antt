@@ -127,7 +127,7 @@ pub sum_nothing : (s : Summary) (n : ℕ) (t : Task) (ts : List Task) → n ≡ 
     → IsSmall 0 s → (size t.tree < 2 ^ 32 → has_summary t.tree Break ≡ false) → SumsUp (below s n) (t ∷ ts)
 sum_nothing s n t ts e reads small unknown = record {
   left = omega (arith, e);
-  looks = λ w c p l. reads w c p l ∙ sym (ap (λ (z : List Task). tasks_look w (in_break z) c p) (combined_none n (t ∷ ts) e));
+  looks = λ w c p. reads w c p ∙ sym (ap (λ (z : List Task). tasks_look w (in_break z) c p) (combined_none n (t ∷ ts) e));
   run = λ few. (e ∙ sym (ap length (run_none t ts (unknown (omega (arith, few))))), omega (arith, small));
 }
 
@@ -146,7 +146,7 @@ sum_own s n i m d ts e known own =
     combined_more n t ts (omega (arith, e)) ∙ ap (λ (z : List Task). t ∷ z) (combined_none n ts e) in
     record {
       left = omega (arith, e);
-      looks = λ w c p l. known i w c p l ∙ sym (look-none (look w d i Break c p))
+      looks = λ w c p. known i w c p ∙ sym (look-none (look w d i Break c p))
           ∙ sym (ap (λ (z : List Task). tasks_look w (in_break z) c p) alone);
       run = λ few. let h = own few in (h.0, omega (arith, h.1));
     }
@@ -160,9 +160,9 @@ sum_then s {r} {b} i m d ts known under both has small =
     let t : Task = make_task i m d in
     record {
       left = omega (arith, under.left);
-      looks = λ w c p l. both w c p l
+      looks = λ w c p. both w c p
           ∙ look-same (look_by w s c p) (look w d i Break c p) (look_by w b.sum) (tasks_look w (in_break (combined b.left ts)))
-          (known i w c p l) (λ e q. under.looks w e q l)
+          (known i w c p) (λ e q. under.looks w e q)
           ∙ sym (ap (λ (z : List Task). tasks_look w (in_break z) c p) (combined_more b.left t ts under.left));
       run = λ few.
           let h = under.run (omega (arith, few)) in (
@@ -184,15 +184,15 @@ fits-append w (t ∷ ts) us c p =
     ∙ sym (answer-then (look w t.tree t.indent t.mode c p) (λ e q. tasks_look w ts e q) (λ e q. tasks_fit w us e q))
 
 -- tasks fit the line as what their sum reads does, with the tasks that it leaves
-pub sum_fits : {b : Below} {ts : List Task} → SumsUp b ts → (w : ℕ) (c : Column) (p : Bool) → w < 2 ^ 32 →
+pub sum_fits : {b : Below} {ts : List Task} → SumsUp b ts → (w : ℕ) (c : Column) (p : Bool) →
     tasks_fit w (in_break ts) c p ≡ answer_of (look_by w b.sum c p) (λ e q. tasks_fit w (in_break (bottom b.left ts)) e q)
-sum_fits {b} {ts} sum w c p l =
+sum_fits {b} {ts} sum w c p =
     let on : List Task = combined b.left ts in
     let left : List Task = bottom b.left ts in
     ap (λ (z : List Task). tasks_fit w (in_break z) c p) (over_bottom b.left ts)
     ∙ ap (λ (z : List Task). tasks_fit w z c p) (map-append (λ (t : Task). make_task t.indent Break t.tree) on left)
     ∙ fits-append w (in_break on) (in_break left) c p
-    ∙ ap (λ (x : Look). answer_of x (λ e q. tasks_fit w (in_break left) e q)) (sym (sum.looks w c p l))
+    ∙ ap (λ (x : Look). answer_of x (λ e q. tasks_fit w (in_break left) e q)) (sym (sum.looks w c p))
 
 -- ---- All sums
 

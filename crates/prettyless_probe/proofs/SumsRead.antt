@@ -60,14 +60,13 @@ begins w t ts c p h = rw h (omega (arith, read_known w t.tree t.indent Break c p
 
 -- a sum that combines a task is read, and then what it leaves
 pub sum_reads : {b : Below} (ts : List Task) → SumsUp b ts → nodes ts < 2 ^ 32 → b.left < length ts → (w : ℕ) (c : Column) (p : Bool) →
-    w < 2 ^ 32 →
     reads_below true w false ts c p ≡ 1 + read_after (look_by w b.sum c p) (reads_below true w false (bottom b.left ts))
-sum_reads {b} [] sum few some w c p l = absurd (omega (arith, some))
-sum_reads {b} (t ∷ ts) sum few some w c p l =
+sum_reads {b} [] sum few some w c p = absurd (omega (arith, some))
+sum_reads {b} (t ∷ ts) sum few some w c p =
     let us : List Task = t ∷ ts in
     let run = (sum.run few).0 in
     begins w t ts c p (run_begins t ts (omega (arith, some, run)))
     ∙ ap (λ (k : ℕ). 1 + k) (in_run w us c p
     ∙ ap (λ (z : List Task). reads_past w (length (below_run us)) us z c p) (sym (bottom_run us))
     ∙ ap (λ (k : ℕ). reads_past w k us (bottom k us) c p) (sym run)
-    ∙ ap (λ (x : Look). read_after x (reads_below true w false (bottom b.left us))) (sym (sum.looks w c p l)))
+    ∙ ap (λ (x : Look). read_after x (reads_below true w false (bottom b.left us))) (sym (sum.looks w c p)))

@@ -1,5 +1,5 @@
 -- The result of a probe at one node, and how many nodes a probe may visit.
-use Rattle.std.specs.Prelude.{◌≡◌, ℕ, ◌+◌, ◌*◌, ◌-◌, ◌^◌, ◌<◌, ◌≤◌, min, max, Bool, true, false, IsTrue, List, [], ◌∷◌, length, Option}
+use Rattle.std.specs.Prelude.{◌≡◌, ℕ, ◌+◌, ◌*◌, ◌-◌, ◌^◌, ◌≤◌, min, max, Bool, true, false, IsTrue, List, [], ◌∷◌, length, Option}
 use Rattle.std.specs.Prelude.{Some, None}
 use Rattle.prettyless_model.specs.Tree.{Tree, Group, PartialUnion, size}
 use Rattle.prettyless_model.specs.Look.{Look, Answers, GoesOn, by_mode}
@@ -80,9 +80,9 @@ asked _ m k = 0
 abbrev pub RisesBy : ℕ → ℕ → ℕ → Type 0
 RisesBy k old new = min (old + k) (2 ^ 64 - 1) ≤ new
 
--- where all is summed up and the width is below 2^32, k probes visit two nodes each at most: one for the document, one for all that follows
-abbrev pub Few : Bool → ℕ → Tree → List Task → ℕ → ℕ → ℕ → Type 0
-Few has width d ts k old new = width < 2 ^ 32 → AllSummed has d ts → new ≤ old + 2 * k
+-- where all is summed up, k probes visit two nodes each at most: one for the document, one for all that follows
+abbrev pub Few : Bool → Tree → List Task → ℕ → ℕ → ℕ → Type 0
+Few has d ts k old new = AllSummed has d ts → new ≤ old + 2 * k
 
 -- a probe has a sum to read at most: nothing comes next, it has no tasks of its own, and those that follow are combined
 pub record OneLeft {N : Type 0} (f : N → Tree) (read : ProbeStep N) (mine under : List Task) (sums : List Below) : Type 0 where

@@ -1,5 +1,5 @@
 -- How many nodes a probe reads: those that it looks at, up to the end of the line. One whose summary is known is read as one.
-use Rattle.std.specs.Prelude.{◌≡◌, ℕ, ◌+◌, ◌-◌, ◌^◌, ◌<◌, min, nat_le, Bool, IsTrue, true, false, ◌&&◌, List, [], ◌∷◌, Option, Some, None, if◌then◌else◌}
+use Rattle.std.specs.Prelude.{◌≡◌, ℕ, ◌+◌, ◌-◌, ◌^◌, ◌<◌, min, Bool, IsTrue, true, false, ◌&&◌, List, [], ◌∷◌, Option, Some, None, if◌then◌else◌}
 use Rattle.prettyless_model.specs.Tree as t
 use Rattle.prettyless_model.specs.Tree.{Tree, size}
 use Rattle.prettyless_model.specs.Choice.{column_holds, nesting_holds}
@@ -66,10 +66,6 @@ reads_below sums width summed (t ∷ ts) c p =
 abbrev pub probe_reads : Bool → ℕ → Tree → ℕ → Mode → List Task → Column → Bool → ℕ
 probe_reads sums width d i m ts c p = reads_all sums width (make_task i m d ∷ []) (reads_below sums width false ts) c p
 
--- whether a probe reads summaries: where nodes have them and the width is below 2^32
-abbrev pub by_sums : Bool → ℕ → Bool
-by_sums has width = has && nat_le width (2 ^ 32 - 1)
-
 -- what a probe has still to read after the result at a node: of the node that is read next, if there is one, and of the tasks after it
 abbrev pub reads_on : {N : Type 0} → (N → Tree) → Bool → ℕ → ProbeStep N → List Task → (Column → Bool → ℕ) → Column → Bool → ℕ
 reads_on f sums width (Answer b) ts next c p = 0
@@ -85,6 +81,6 @@ reads_next (Some n) from = from n
 abbrev pub RisesTo : ℕ → ℕ → ℕ → Type 0
 RisesTo k old new = new ≡ min (old + k) (2 ^ 64 - 1)
 
--- what a probe reads by summaries, if it does, is few enough for no number of a sum to pass 32 bits
-abbrev pub IsFew : Bool → ℕ → Tree → List Task → Type 0
-IsFew has width d ts = IsTrue (by_sums has width) → size d + nodes ts < 2 ^ 32
+-- what a probe reads by summaries, if nodes have them, is few enough for no number of a sum to pass 32 bits
+abbrev pub IsFew : Bool → Tree → List Task → Type 0
+IsFew has d ts = IsTrue has → size d + nodes ts < 2 ^ 32

@@ -1,5 +1,5 @@
 -- Stacks of nodes, seen as tasks.
-use Rattle.std.specs.Prelude.{◌≡◌, ℕ, ◌+◌, ◌≤◌, List, [], ◌∷◌, ◌++◌, map, take, length, Bool, vec_capacity}
+use Rattle.std.specs.Prelude.{ℕ, ◌+◌, ◌≤◌, List, [], ◌∷◌, ◌++◌, map, take, length, Bool, vec_capacity}
 use Rattle.prettyless_model.specs.Tree.{Tree, size}
 use Rattle.prettyless_model.specs.Column.{padding_fits}
 use Rattle.prettyless_model.specs.Look.{Look, GoesOn, answer_of, look, look_then}

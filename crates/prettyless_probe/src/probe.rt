@@ -13,7 +13,7 @@ ghost use Rattle.prettyless_probe.specs.declared.probe.ProbeLine.{ProbeLine};
 ghost use Rattle.prettyless_probe.specs.declared.probe.ProbeStep.TheVariants.{Answer, Silent, Descend};
 ghost use Rattle.prettyless_probe.specs.declared.probe.Fit.TheVariants.{FitsAsTexts, Fits, Exceeds};
 ghost use Rattle.prettyless_probe.specs.Probing.{Few, ReadsAs, RisesBy, RoomAt, TextsAt, is_fit, look_by_answer, nodes_next, read_in, read_of};
-ghost use Rattle.prettyless_probe.specs.Reads.{IsFew, RisesTo, by_sums, probe_reads, reads_all, reads_below, reads_next, reads_on};
+ghost use Rattle.prettyless_probe.specs.Reads.{IsFew, RisesTo, probe_reads, reads_all, reads_below, reads_next, reads_on};
 ghost use Rattle.prettyless_probe.specs.Sums.{IsSummed};
 ghost use Rattle.prettyless_probe.specs.Stack.{IsCursor, Task, follow, in_break, make_task, nodes, stack_of, task, tasks_fit};
 ghost use Rattle.prettyless_probe.specs.Stack.{room_of, unread};
@@ -564,18 +564,18 @@ pub fn probe<N: Walk>(
     ensures rises { probes.old ≤ probes.new }
     ensures counted { probes.new ≤ probes.old + (size (N.tree node) + nodes (stack_of N.tree commands.now)) }
     ensures asked { OnOk result (RisesBy 1 probes.old probes.new) }
-    ensures few { Few N.HAS_SUMMARIES width (N.tree node) (stack_of N.tree commands.now) 1 probes.old probes.new }
-    ensures reads { IsFew N.HAS_SUMMARIES width (N.tree node) (stack_of N.tree commands.now) → OnOk result (RisesTo
-        (probe_reads (by_sums N.HAS_SUMMARIES width) width (N.tree node) indent mode (stack_of N.tree commands.now)
+    ensures few { Few N.HAS_SUMMARIES (N.tree node) (stack_of N.tree commands.now) 1 probes.old probes.new }
+    ensures reads { IsFew N.HAS_SUMMARIES (N.tree node) (stack_of N.tree commands.now) → OnOk result (RisesTo
+        (probe_reads N.HAS_SUMMARIES width (N.tree node) indent mode (stack_of N.tree commands.now)
         start.column start.pending) probes.old probes.new) }
-    ensures reads_at_most { IsFew N.HAS_SUMMARIES width (N.tree node) (stack_of N.tree commands.now) → probes.new ≤ probes.old
-        + probe_reads (by_sums N.HAS_SUMMARIES width) width (N.tree node) indent mode (stack_of N.tree commands.now)
+    ensures reads_at_most { IsFew N.HAS_SUMMARIES (N.tree node) (stack_of N.tree commands.now) → probes.new ≤ probes.old
+        + probe_reads N.HAS_SUMMARIES width (N.tree node) indent mode (stack_of N.tree commands.now)
         start.column start.pending }
 {
     stack.clear();
     let first = Command { indent, mode, node };
     let below = commands.cursor();
-    if N::has_summaries() && width <= u32::MAX as usize {
+    if N::has_summaries() {
         let fits = visit_by_sums(width, start, first, commands, below, stack, probes)?;
         return Ok(found(fits, false));
     }

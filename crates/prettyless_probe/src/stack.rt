@@ -28,6 +28,8 @@ pub struct Stack<N> {
     here: Frame,
     /// The sum of each node and of those below it, where nodes have summaries.
     sums: Vec<Below>,
+    // What was read in advance; nothing depends on it.
+    seen: bool,
     pub ghost bottom: { lowest frames.items here ≡ 0 },
     pub ghost rises: { Rises frames.items here } by { Rises-prop frames.items here },
     pub ghost top: { here.below ≤ vec_len nodes },
@@ -63,6 +65,7 @@ impl<N: Walk> Stack<N> {
                 below: 0,
             },
             sums: Vec::new(alloc),
+            seen: false,
         }
     }
 
@@ -228,6 +231,7 @@ impl<N: Walk> Stack<N> {
         ensures room { OnOk result ((room_of self.old ≤ room_of self.new) × (length (stack_of N.tree self.new) ≤ room_of self.new)) }
     {
         self.push_sum(&node)?;
+        self.seen = node.touch();
         self.nodes.push(node)?;
         Ok(())
     }

@@ -53,7 +53,6 @@ fn read_one<N: Walk>(
     node: N,
     stack: &mut Stack<N>,
 ) -> Result<ProbeStep<N>, AllocError>
-    requires { width < 2 ^ 32 }
     ensures answer { IfOk result (λ a. (ts : List Task) → ReadsAs N.tree width a
         (tasks_fit width (make_task indent mode (N.tree node) ∷ (stack_of N.tree stack.old ++ ts)) line.old.column line.old.pending)
         (stack_of N.tree stack.new ++ ts) line.new.column line.new.pending) }
@@ -82,7 +81,6 @@ fn read_on<N: Walk>(
     stack: &mut Stack<N>,
     probes: &mut u64,
 ) -> ProbeStep<N>
-    requires narrow { width < 2 ^ 32 }
     requires of_this { IsCursor commands.now below.old }
     requires summed { AreSums commands.now.sums.items (unread N.tree commands.now below.old) }
     ensures of_this { IsCursor commands.now below.new }
@@ -135,7 +133,6 @@ pub(crate) fn visit_by_sums<N: Walk>(
     stack: &mut Stack<N>,
     probes: &mut u64,
 ) -> Result<bool, AllocError>
-    requires narrow { width < 2 ^ 32 }
     requires of_this { IsCursor commands.now cursor }
     requires summed { AreSums commands.now.sums.items (unread N.tree commands.now cursor) }
     ensures answer { IfOk result
@@ -146,7 +143,7 @@ pub(crate) fn visit_by_sums<N: Walk>(
         ≤ probes.old + (size (N.tree first.node) + (nodes (stack_of N.tree stack.old) + nodes (unread N.tree commands.now cursor))) }
     ensures asked { OnOk result (RisesBy 1 probes.old probes.new) }
     ensures few { stack_of N.tree stack.old ≡ [] → length (unread N.tree commands.now cursor) ≤ length commands.now.sums.items
-        → Few N.HAS_SUMMARIES width (N.tree first.node) (unread N.tree commands.now cursor) 1 probes.old probes.new }
+        → Few N.HAS_SUMMARIES (N.tree first.node) (unread N.tree commands.now cursor) 1 probes.old probes.new }
     ensures reads { IsTrue N.HAS_SUMMARIES → length (unread N.tree commands.now cursor) ≤ length commands.now.sums.items
         → size (N.tree first.node) + (nodes (stack_of N.tree stack.old) + nodes (unread N.tree commands.now cursor)) < 2 ^ 32
         → OnOk result (RisesTo (reads_all true width (task N.tree first ∷ stack_of N.tree stack.old)

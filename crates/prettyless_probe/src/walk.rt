@@ -50,6 +50,9 @@ pub trait Walk: Copy {
     fn has_summaries() -> bool
         ensures { result ≡ HAS_SUMMARIES };
 
+    /// Reads the node in advance, so that it is near when it is looked at.
+    fn touch(&self) -> bool;
+
     /// What the node is.
     fn view(&self) -> View<'_, Self>
         ensures tree { view_tree tree result ≡ tree self.now }

@@ -7,12 +7,12 @@ use Rattle.prettyless_model.specs.Look.{by_mode}
 use Rattle.prettyless_model.specs.declared.mode.Mode.{Mode}
 use Rattle.prettyless_model.specs.declared.mode.Mode.TheVariants.{Break, Flat}
 use Rattle.prettyless_model.specs.declared.options.RenderOptions.{RenderOptions}
-use Rattle.prettyless_probe.specs.Reads.{by_sums, probe_reads}
+use Rattle.prettyless_probe.specs.Reads.{probe_reads}
 use Rattle.prettyless_probe.specs.Stack.{Task}
 
 -- of a document at an indent in a mode, where the printer is in a state and has these tasks left; `has` says whether nodes have summaries
 abbrev pub reads_here : Bool → RenderOptions → Tree → ℕ → Mode → List Task → State → ℕ
-reads_here has o d i m ts st = probe_reads (by_sums has o.width) o.width d i m ts st.column (some_pending st.pending)
+reads_here has o d i m ts st = probe_reads has o.width d i m ts st.column (some_pending st.pending)
 
 -- Of the visit of a node. Only that of a group and of a partial union in Break starts a probe.
 abbrev pub step_reads : Bool → RenderOptions → Tree → ℕ → Mode → List Task → State → ℕ

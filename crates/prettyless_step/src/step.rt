@@ -53,11 +53,11 @@ fn probe_here<N: Walk>(
     ensures rises { probes.old ≤ probes.new }
     ensures counted { probes.new ≤ probes.old + (size (N.tree node) + nodes (tasks_of N.tree printer.old)) }
     ensures asked { OnOk result (RisesBy 1 probes.old probes.new) }
-    ensures few { Few N.HAS_SUMMARIES printer.old.options.width (N.tree node) (tasks_of N.tree printer.old) 1 probes.old probes.new }
-    ensures reads { IsFew N.HAS_SUMMARIES printer.old.options.width (N.tree node) (tasks_of N.tree printer.old) → OnOk result (RisesTo
+    ensures few { Few N.HAS_SUMMARIES (N.tree node) (tasks_of N.tree printer.old) 1 probes.old probes.new }
+    ensures reads { IsFew N.HAS_SUMMARIES (N.tree node) (tasks_of N.tree printer.old) → OnOk result (RisesTo
         (reads_here N.HAS_SUMMARIES printer.old.options (N.tree node) indent mode (tasks_of N.tree printer.old)
         (state_of N.tree printer.old)) probes.old probes.new) }
-    ensures reads_at_most { IsFew N.HAS_SUMMARIES printer.old.options.width (N.tree node) (tasks_of N.tree printer.old) → probes.new
+    ensures reads_at_most { IsFew N.HAS_SUMMARIES (N.tree node) (tasks_of N.tree printer.old) → probes.new
         ≤ probes.old + reads_here N.HAS_SUMMARIES printer.old.options (N.tree node) indent mode (tasks_of N.tree printer.old)
         (state_of N.tree printer.old) }
 {
@@ -95,13 +95,13 @@ fn partial_choice<N: Walk>(
     ensures rises { probes.old ≤ probes.new }
     ensures counted { probes.new ≤ probes.old + by_mode mode (size (N.tree first) + nodes (tasks_of N.tree printer.old)) 0 }
     ensures asked { OnOk result (RisesBy (by_mode mode 1 0) probes.old probes.new) }
-    ensures few { Few N.HAS_SUMMARIES printer.old.options.width (N.tree first) (tasks_of N.tree printer.old) (by_mode mode 1 0)
+    ensures few { Few N.HAS_SUMMARIES (N.tree first) (tasks_of N.tree printer.old) (by_mode mode 1 0)
         probes.old probes.new }
-    ensures reads { mode ≡ Break → IsFew N.HAS_SUMMARIES printer.old.options.width (N.tree first) (tasks_of N.tree printer.old)
+    ensures reads { mode ≡ Break → IsFew N.HAS_SUMMARIES (N.tree first) (tasks_of N.tree printer.old)
         → OnOk result (RisesTo
         (reads_here N.HAS_SUMMARIES printer.old.options (N.tree first) indent Break (tasks_of N.tree printer.old)
         (state_of N.tree printer.old)) probes.old probes.new) }
-    ensures reads_at_most { IsFew N.HAS_SUMMARIES printer.old.options.width (N.tree first) (tasks_of N.tree printer.old) → probes.new
+    ensures reads_at_most { IsFew N.HAS_SUMMARIES (N.tree first) (tasks_of N.tree printer.old) → probes.new
         ≤ probes.old + by_mode mode (reads_here N.HAS_SUMMARIES printer.old.options (N.tree first) indent Break
         (tasks_of N.tree printer.old) (state_of N.tree printer.old)) 0 }
 {
@@ -245,13 +245,13 @@ fn group<N: Walk>(
     ensures asked { IfOk result (λ taken. IsStepped taken → RisesBy (by_mode mode 1 0) probes.old probes.new) }
     ensures past { IfOk result (λ taken. IsStopped taken → (limit < probes.old) × (probes.old < 2 ^ 64) × (probes.new ≡ probes.old)) }
     ensures within { IsSteppedOrRefused result → 0 < by_mode mode 1 0 → probes.old ≤ limit }
-    ensures few { Few N.HAS_SUMMARIES printer.old.options.width (N.tree inner) (tasks_of N.tree printer.old) (by_mode mode 1 0)
+    ensures few { Few N.HAS_SUMMARIES (N.tree inner) (tasks_of N.tree printer.old) (by_mode mode 1 0)
         probes.old probes.new }
-    ensures reads { mode ≡ Break → IsFew N.HAS_SUMMARIES printer.old.options.width (N.tree inner) (tasks_of N.tree printer.old)
+    ensures reads { mode ≡ Break → IsFew N.HAS_SUMMARIES (N.tree inner) (tasks_of N.tree printer.old)
         → IfOk result (λ taken. IsStepped taken → RisesTo
         (reads_here N.HAS_SUMMARIES printer.old.options (N.tree inner) indent Flat (tasks_of N.tree printer.old)
         (state_of N.tree printer.old)) probes.old probes.new) }
-    ensures reads_at_most { IsFew N.HAS_SUMMARIES printer.old.options.width (N.tree inner) (tasks_of N.tree printer.old) → probes.new
+    ensures reads_at_most { IsFew N.HAS_SUMMARIES (N.tree inner) (tasks_of N.tree printer.old) → probes.new
         ≤ probes.old + by_mode mode (reads_here N.HAS_SUMMARIES printer.old.options (N.tree inner) indent Flat
         (tasks_of N.tree printer.old) (state_of N.tree printer.old)) 0 }
     ensures queue { printer.new.queue ≡ printer.old.queue }
@@ -297,13 +297,13 @@ fn partial_union<N: Walk>(
     ensures asked { IfOk result (λ taken. IsStepped taken → RisesBy (by_mode mode 1 0) probes.old probes.new) }
     ensures past { IfOk result (λ taken. IsStopped taken → (limit < probes.old) × (probes.old < 2 ^ 64) × (probes.new ≡ probes.old)) }
     ensures within { IsSteppedOrRefused result → 0 < by_mode mode 1 0 → probes.old ≤ limit }
-    ensures few { Few N.HAS_SUMMARIES printer.old.options.width (N.tree first) (tasks_of N.tree printer.old) (by_mode mode 1 0)
+    ensures few { Few N.HAS_SUMMARIES (N.tree first) (tasks_of N.tree printer.old) (by_mode mode 1 0)
         probes.old probes.new }
-    ensures reads { mode ≡ Break → IsFew N.HAS_SUMMARIES printer.old.options.width (N.tree first) (tasks_of N.tree printer.old)
+    ensures reads { mode ≡ Break → IsFew N.HAS_SUMMARIES (N.tree first) (tasks_of N.tree printer.old)
         → IfOk result (λ taken. IsStepped taken → RisesTo
         (reads_here N.HAS_SUMMARIES printer.old.options (N.tree first) indent Break (tasks_of N.tree printer.old)
         (state_of N.tree printer.old)) probes.old probes.new) }
-    ensures reads_at_most { IsFew N.HAS_SUMMARIES printer.old.options.width (N.tree first) (tasks_of N.tree printer.old) → probes.new
+    ensures reads_at_most { IsFew N.HAS_SUMMARIES (N.tree first) (tasks_of N.tree printer.old) → probes.new
         ≤ probes.old + by_mode mode (reads_here N.HAS_SUMMARIES printer.old.options (N.tree first) indent Break
         (tasks_of N.tree printer.old) (state_of N.tree printer.old)) 0 }
     ensures queue { printer.new.queue ≡ printer.old.queue }
@@ -376,15 +376,15 @@ pub fn step<'v, N: Walk>(
     ensures past { IfOk result (λ taken. IsStopped taken → (limit < visits.old.probes) × (visits.old.probes < 2 ^ 64)
         × (visits.new ≡ visits.old)) }
     ensures within { IsSteppedOrRefused result → 0 < each_probe (N.tree node.now) mode → visits.old.probes ≤ limit }
-    ensures few { Few N.HAS_SUMMARIES printer.old.options.width (N.tree node.now) (tasks_of N.tree printer.old)
+    ensures few { Few N.HAS_SUMMARIES (N.tree node.now) (tasks_of N.tree printer.old)
         (each_probe (N.tree node.now) mode)
         visits.old.probes visits.new.probes }
     ensures reads { 0 < each_probe (N.tree node.now) mode
-        → IsFew N.HAS_SUMMARIES printer.old.options.width (N.tree node.now) (tasks_of N.tree printer.old)
+        → IsFew N.HAS_SUMMARIES (N.tree node.now) (tasks_of N.tree printer.old)
         → IfOk result (λ taken. IsStepped taken → RisesTo
         (step_reads N.HAS_SUMMARIES printer.old.options (N.tree node.now) indent mode (tasks_of N.tree printer.old)
         (state_of N.tree printer.old)) visits.old.probes visits.new.probes) }
-    ensures reads_at_most { IsFew N.HAS_SUMMARIES printer.old.options.width (N.tree node.now) (tasks_of N.tree printer.old)
+    ensures reads_at_most { IsFew N.HAS_SUMMARIES (N.tree node.now) (tasks_of N.tree printer.old)
         → visits.new.probes ≤ visits.old.probes + step_reads N.HAS_SUMMARIES printer.old.options (N.tree node.now) indent mode
         (tasks_of N.tree printer.old) (state_of N.tree printer.old) }
     ensures queue { suffix_depth (N.tree node.now) ≡ 0 → some_pending (state_of N.tree printer.old).pending ≡ false

@@ -12,8 +12,8 @@ use Rattle.prettyless_summary.specs.declared.summary.End.TheVariants.{Open, No, 
 -- a summary and then a look, and then another one
 pub continues : (s r t : Summary) (f g : ℕ → Column → Bool → Look) → ContinuesLook s f r → ContinuesLook r g t →
     ContinuesLook s (λ width c p. look_then (f width c p) (g width)) t
-continues s r t f g h k width c p l =
-    k width c p l ∙ ap (λ (x : Look). look_then x (g width)) (h width c p l) ∙ look-then-then (look_by width s c p) (f width) (g width)
+continues s r t f g h k width c p =
+    k width c p ∙ ap (λ (x : Look). look_then x (g width)) (h width c p) ∙ look-then-then (look_by width s c p) (f width) (g width)
 
 -- a look that answers, whatever follows it
 
@@ -31,7 +31,7 @@ answers_then (GoesOn c p) f g h = h c p
 
 -- a summary that is closed, and then anything, is that summary
 pub closed : (s : Summary) → (s.end ≡ Open → ⊥) → (f : ℕ → Column → Bool → Look) → ContinuesLook s f s
-closed s h f width c p l =
+closed s h f width c p =
     answers_then (look_weak width (mode_of s.weak) (after_spaces s.lead c) p) (look_rest width s) (f width)
     (λ e q. answers_then (look_ink width s.has_ink s.inner s.trail e q) (λ g r. look_out width s.end g (s.has_suffix || r)) (f width)
     (λ g r. closed_out width s.end h (f width) g (s.has_suffix || r)))

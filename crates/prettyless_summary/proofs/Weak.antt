@@ -11,7 +11,7 @@ use Rattle.prettyless_summary.specs.declared.summary.End.{End}
 -- what a summary has after its weak line may say what a look after the whole summary says
 pub rest_continues : (s r : Summary) (f : ℕ → Column → Bool → Look) → r.lead ≡ s.lead → r.weak ≡ s.weak
     → ((width : ℕ) (c : Column) (p : Bool) → look_rest width r c p ≡ look_then (look_rest width s c p) (f width)) → ContinuesLook s f r
-rest_continues s r f lead weak h width c p l =
+rest_continues s r f lead weak h width c p =
     rw (lead, weak) (look-each (look_weak width (mode_of s.weak) (after_spaces s.lead c) p) (look_rest width r)
     (λ e q. look_then (look_rest width s e q) (f width)) (h width)
     ∙ sym (look-then-then (look_weak width (mode_of s.weak) (after_spaces s.lead c) p) (look_rest width s) (f width)))

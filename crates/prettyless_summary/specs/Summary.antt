@@ -1,5 +1,5 @@
 -- What a document shows a probe, in one value.
-use Rattle.std.specs.Prelude.{◌≡◌, ℕ, ◌+◌, ◌^◌, ◌<◌, ◌≤◌, Bool, true, false, not, ◌&&◌, ◌||◌, ◌==◌, nat_le, Option, Some, None, MatchOption}
+use Rattle.std.specs.Prelude.{◌≡◌, ℕ, ◌+◌, ◌≤◌, Bool, true, false, not, ◌&&◌, ◌||◌, ◌==◌, nat_le, Option, Some, None, MatchOption}
 use Rattle.std.specs.Prelude.{⊤, if◌then◌else◌}
 use Rattle.prettyless_model.specs.Tree.{Tree, Nest, Append, LineSuffix, DedentToRoot, Align, Flatten, BreakOrFlat, Group, Union}
 use Rattle.prettyless_model.specs.Tree.{PartialUnion, OnColumn, OnNesting}
@@ -53,9 +53,9 @@ look_rest width s c p =
 abbrev pub look_by : ℕ → Summary → Column → Bool → Look
 look_by width s c p = look_then (look_weak width (mode_of s.weak) (after_spaces s.lead c) p) (look_rest width s)
 
--- reading a line by a summary has the result of a look, at every width below 2^32
+-- reading a line by a summary has the result of a look
 abbrev pub ReadsLook : Summary → (ℕ → Column → Bool → Look) → Type 0
-ReadsLook s f = (width : ℕ) (c : Column) (p : Bool) → width < 2 ^ 32 → look_by width s c p ≡ f width c p
+ReadsLook s f = (width : ℕ) (c : Column) (p : Bool) → look_by width s c p ≡ f width c p
 
 -- the summary of a document in a mode: it shows a probe the same, whatever the indent
 abbrev pub Summarizes : Summary → Tree → Mode → Type 0

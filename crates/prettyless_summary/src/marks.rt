@@ -54,15 +54,15 @@ impl Summary {
 
     /// The summary with these numbers and marks.
     #[inline]
-    pub fn unpacked(lead: u32, inner: u32, trail: u32, marks: u8) -> Self
+    pub fn unpacked(lead: u32, inner: usize, trail: u32, marks: u8) -> Self
         ensures lead { result.lead ≡ lead }
         ensures inner { result.inner ≡ inner }
         ensures trail { result.trail ≡ trail }
         ensures same { (s : Summary) → lead ≡ s.lead → inner ≡ s.inner → trail ≡ s.trail → marks ≡ marks_of s → result ≡ s }
     {
         Summary {
-            lead,
             inner,
+            lead,
             trail,
             weak: weak_of(marks),
             has_ink: marks / 4 % 2 == 1,

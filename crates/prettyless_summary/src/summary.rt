@@ -26,9 +26,7 @@ pub enum End {
     Yes,
 }
 
-/// The weak line that comes first, by its mode, or none.
-///
-/// It takes one byte, so a summary has no bytes between its fields and none after them, which would be copied too.
+/// The weak line that comes first, by its mode, or none. It takes one byte.
 #[derive(Clone, Copy)]
 pub enum Weak {
     Never,
@@ -66,10 +64,10 @@ impl Weak {
 /// Where a weak line comes first, all but `lead` is what comes of the document if that weak line is nothing.
 #[derive(Clone, Copy)]
 pub struct Summary {
+    /// Columns from the first ink to the last, with the weak spaces between, or the greatest `usize`.
+    pub inner: usize,
     /// Weak spaces before the weak line that comes first; where there is none, before the first ink, or all.
     pub lead: u32,
-    /// Columns from the first ink to the last, with the weak spaces between.
-    pub inner: u32,
     /// Weak spaces after the last ink.
     pub trail: u32,
     /// The mode of a weak line that comes before the first ink and the first line suffix.
@@ -82,12 +80,12 @@ pub struct Summary {
     pub end: End,
 }
 
-const _: () = prove!(size_of::<Summary>() == 16);
+const _: () = prove!(size_of::<Summary>() == 24);
 
 // The summary of nothing.
 const NOTHING: Summary = Summary {
-    lead: 0,
     inner: 0,
+    lead: 0,
     trail: 0,
     weak: Weak::Never,
     has_ink: false,
@@ -216,13 +214,10 @@ impl Summary {
             if nat_le (commit columns c).position width then GoesOn (commit columns c) p else Answers false) }
         ensures small { IsSmall 0 result }
     {
-        match u32::try_from(columns) {
-            Ok(columns) => Summary {
-                inner: columns,
-                has_ink: true,
-                ..NOTHING
-            },
-            Err(_) => Summary::no(),
+        Summary {
+            inner: columns,
+            has_ink: true,
+            ..NOTHING
         }
     }
 
@@ -305,32 +300,27 @@ impl Summary {
         Summary { weak, ..self }
     }
 
-    // It and then ink of so many columns, with weak spaces after it. Past 2^32 there is no more to say than no.
+    // It and then ink of so many columns, with weak spaces after it.
     #[inline(always)]
-    fn and_ink(self, columns: u32, trail: u32) -> Self
+    fn and_ink(self, columns: usize, trail: u32) -> Self
         requires { self.end ≡ Open }
         ensures reads { ContinuesLook self (λ width c p. look_ink width true columns trail c p) result }
         ensures lead { result.lead ≡ self.lead }
         ensures trail { result.trail ≤ trail }
     {
-        let mut inner = columns as u64;
-        if self.has_ink {
-            inner += self.inner as u64 + self.trail as u64;
-        }
-        match u32::try_from(inner) {
-            Ok(inner) => Summary {
-                inner,
+        if !self.has_ink {
+            return Summary {
+                inner: columns,
                 trail,
                 has_ink: true,
                 ..self
-            },
-            Err(_) => Summary {
-                inner: 0,
-                trail: 0,
-                has_ink: false,
-                end: End::No,
-                ..self
-            },
+            };
+        }
+        let before = self.inner.saturating_add(self.trail as usize);
+        Summary {
+            inner: before.saturating_add(columns),
+            trail,
+            ..self
         }
     }
 
@@ -385,7 +375,7 @@ impl Summary {
     /// The result of reading what it is the summary of, from a column on.
     ///
     /// It is the answer of the probe, or the line after what was read.
-    /// `pending` says whether a line suffix is pending before that. The result is right at widths below 2^32.
+    /// `pending` says whether a line suffix is pending before that.
     #[inline]
     pub fn read(self, width: usize, column: Column, pending: bool) -> ReadResult
         ensures { look_of result ≡ look_by width self column pending }
@@ -400,7 +390,7 @@ impl Summary {
         if !self.has_ink {
             return read_end(self.end, width, start, pending_after);
         }
-        let inked = start.committed(self.inner as usize);
+        let inked = start.committed(self.inner);
         if inked.position > width {
             return ReadResult::Answer(false);
         }

@@ -54,4 +54,4 @@ impl<N: Walk> Cell<N> {
     }
 }
 
-const _: () = prove!(size_of::<Cell<&'static u8>>() == 32);
+const _: () = prove!(size_of::<Cell<&'static u8>>() == 40);

@@ -107,6 +107,11 @@ impl<'t, N: Walk> Walk for Placed<'t, N> {
     }
 
     #[inline(always)]
+    fn touch(&self) -> bool {
+        false
+    }
+
+    #[inline(always)]
     fn view(&self) -> View<'_, Self> {
         match self.node.view() {
             View::Nil => View::Nil,

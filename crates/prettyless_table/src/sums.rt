@@ -27,10 +27,10 @@ pub struct Sums {
 /// The numbers of a summary, in columns, as `Summary` has them.
 #[derive(Clone, Copy)]
 pub struct Counts {
+    /// From the first ink to the last, with the weak spaces between, or the greatest `usize`.
+    pub inner: usize,
     /// Weak spaces before the weak line that comes first; where there is none, before the first ink, or all.
     pub lead: u32,
-    /// From the first ink to the last, with the weak spaces between.
-    pub inner: u32,
     /// Weak spaces after the last ink.
     pub trail: u32,
 }
@@ -46,16 +46,16 @@ pub fn packed(sum: Option<Summary>) -> (u8, Counts)
     match sum {
         Some(sum) => {
             let counts = Counts {
-                lead: sum.lead,
                 inner: sum.inner,
+                lead: sum.lead,
                 trail: sum.trail,
             };
             (sum.marks(), counts)
         }
         None => {
             let counts = Counts {
-                lead: 0,
                 inner: 0,
+                lead: 0,
                 trail: 0,
             };
             (NOT_KNOWN, counts)

@@ -50,16 +50,6 @@ impl<N: Walk> Table<N> {
     ghost use Rattle.prettyless_table.specs.Stored.{FirstIn, HasAt, SecondIn};
     ghost use Rattle.prettyless_table.specs.Owners.{AreFound, WaitsInTable, all_owners, keepers};
 
-    /// A table without documents. It takes no memory.
-    pub fn new(alloc: Global) -> Self
-        ensures empty { result.cells.items ≡ [] }
-        ensures sound { CellsAreSound N.tree result.cells.items }
-    {
-        Table {
-            cells: Vec::new(alloc),
-        }
-    }
-
     /// A table without documents, with memory for so many cells. It fails where that memory is refused.
     pub fn with_room(alloc: Global, nodes: usize) -> Result<Self, AllocError>
         ensures empty { IfOk result (λ t. t.cells.items ≡ []) }
@@ -69,21 +59,6 @@ impl<N: Walk> Table<N> {
         Ok(Table {
             cells: Vec::with_capacity(alloc, nodes)?,
         })
-    }
-
-    /// How many cells it has.
-    pub fn len(&self) -> usize
-        ensures { result ≡ length self.now.cells.items }
-    {
-        self.cells.len()
-    }
-
-    /// Takes all documents out, and keeps the memory.
-    pub fn clear(&mut self)
-        ensures empty { self.new.cells.items ≡ [] }
-        ensures sound { CellsAreSound N.tree self.new.cells.items }
-    {
-        self.cells.clear();
     }
 
     /// The document at a place, and where its node stands.

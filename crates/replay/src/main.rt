@@ -3,18 +3,39 @@
 //! lays out cases that it makes. `replay --help` writes the usage.
 #![tactic(auto)]
 
+mod answer;
+mod case;
+mod compared;
+mod condition;
+mod dice;
+mod expected;
+mod hostile;
+mod names;
+mod number;
+mod operand;
+mod operator;
+mod outcome;
+mod pieces;
+mod random;
+mod reading;
+mod refusal;
+mod request;
+mod run;
+mod statement;
+mod text;
+mod words;
+
+use answer::Asked;
 use prettyless::IoWrite;
-use replay_cases::answer::Asked;
-use replay_cases::random::first_other;
-use replay_cases::request::{ReplayEnd, Request, USAGE, requested};
-use replay_cases::run::run;
+use random::first_other;
+use request::{ReplayEnd, Request, USAGE, requested};
 use std::io::{BufReader, BufWriter, ErrorKind, Write};
 use std::process::ExitCode;
 use std::rt::Env;
 use std::{env, io};
 
 // The words after the program's name. One that is no text is a wrong word.
-fn words<R: AllocGlobal + Env>(rt: &R) -> Result<Vec<String>, ReplayEnd> {
+fn arguments<R: AllocGlobal + Env>(rt: &R) -> Result<Vec<String>, ReplayEnd> {
     let words = env::args(rt).map_err(|error| match error.kind() {
         ErrorKind::OutOfMemory => ReplayEnd::Failed(error),
         _ => ReplayEnd::Words,
@@ -28,7 +49,7 @@ fn words<R: AllocGlobal + Env>(rt: &R) -> Result<Vec<String>, ReplayEnd> {
 fn answer_cases<R: AllocGlobal + Input + Print>(rt: &R, asked: Asked) -> Result<(), ReplayEnd> {
     let mut reader = BufReader::new(rt.alloc(), rt.reader())?;
     let mut out = BufWriter::new(rt.alloc(), io::writer(rt))?;
-    let tally = run(rt.alloc(), asked, &mut reader, &mut IoWrite::new(&mut out))?;
+    let tally = run::run(rt.alloc(), asked, &mut reader, &mut IoWrite::new(&mut out))?;
     out.flush()?;
     if tally.different == 0 {
         Ok(())
@@ -57,7 +78,7 @@ fn lay_out_random<R: AllocGlobal + Print>(
 }
 
 fn replay<R: AllocGlobal + Env + Input + Print>(rt: &R) -> Result<(), ReplayEnd> {
-    match requested(&words(rt)?).ok_or(ReplayEnd::Words)? {
+    match requested(&arguments(rt)?).ok_or(ReplayEnd::Words)? {
         Request::Replay(asked) => answer_cases(rt, asked)?,
         Request::Random(seed, count) => lay_out_random(rt, seed, count)?,
         Request::Help => println!(rt; "{USAGE}")?,

@@ -1,5 +1,5 @@
 //! What a call leaves in the area that it is lent.
-use prettyless_area::area::{Area, Full};
+use prettyless_exports::area::{Area, Full};
 use prettyless_sink::render::Render;
 use std::process::Abort;
 

@@ -12,17 +12,18 @@ enum Language {
     Toml,
 }
 
-// Only JSON is filled.
+// Only JSON is filled, and keeps blank lines.
 #[derive(Clone, Copy)]
 struct Options {
     width: usize,
     indent: u32,
     fill: bool,
+    keep_blank_lines: bool,
     limit: usize,
 }
 
 #[rattlefmt::skip]
-const PLAIN: Options = Options { width: 80, indent: 2, fill: false, limit: 0 };
+const PLAIN: Options = Options { width: 80, indent: 2, fill: false, keep_blank_lines: false, limit: 0 };
 
 #[rattlefmt::skip]
 const NARROW: Options = Options { width: 7, indent: 1, ..PLAIN };
@@ -41,6 +42,7 @@ const JSON: &[Row<'static>] = &[
     (NARROW, b"[1,2,3]", 0, 15, "[\n 1,\n 2,\n 3\n]\n", (0, 0)),
     (Options { indent: 2, ..NARROW }, b"[1,2,3]", 1, 18, "[\n  1,\n  2,\n  3", (0, 0)),
     (Options { fill: true, ..NARROW }, b"[1,2,3]", 0, 14, "[\n 1, 2,\n 3\n]\n.", (0, 0)),
+    (Options { width: 5, keep_blank_lines: true, ..NARROW }, b"[1,\n\n\n2]", 0, 12, "[\n 1,\n\n 2\n]\n...", (0, 0)),
     (Options { limit: 10, ..PLAIN }, b"[1,2,3]", 0, 10, "[1, 2, 3]\n.....", (0, 0)),
     (Options { limit: 3, ..PLAIN }, b"[1,2,3]", 4, 3, "[1,............", (0, 0)),
     // What was expected, at a line and a column of characters. A name may be longer than the area.
@@ -81,6 +83,7 @@ fn compare(
         width,
         indent,
         fill,
+        keep_blank_lines,
         limit,
     } = options;
     let mut out = *b"...............";
@@ -92,6 +95,7 @@ fn compare(
             width,
             indent,
             fill,
+            keep_blank_lines,
             limit,
             &mut out,
             &mut count,

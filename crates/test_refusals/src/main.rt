@@ -1,5 +1,5 @@
-//! Builds documents in each place, copies them, lays them out and counts the visits of one, and formats an S-expression, all over
-//! fixed arrays. Where memory is refused it does the same once more, which has to succeed. So it prints the same whichever one request
+//! Builds documents in each place, copies them, lays them out and counts the visits of one, all over fixed arrays.
+//! Where memory is refused it does the same once more, which has to succeed. So it prints the same whichever one request
 //! for memory is refused, and `tools/refuse_memory` refuses each in turn. It fails where it cannot go on.
 //!
 //! `rt try` refuses the request of one number in all runs. So this reads how many requests it makes of its own before the others,
@@ -11,25 +11,19 @@ mod documents;
 mod parts;
 
 use arrayvec::ArrayVec;
-use decimals::number;
 use documents::{ALL, COPIED, COUNTED, KEPT, Kind};
 use prettyless::text::BuildError;
 use prettyless::{
     Arena, BoxAllocator, BoxDoc, Bump, DocPlace, DocPtr, IoWrite, RcAllocator, RenderError,
     RenderOptions, Visits,
 };
-use sexp_formatter::RunError;
 use std::alloc::Global;
 use std::io::Read;
 use std::process::ExitCode;
+use std::str::from_utf8;
 
 // How many requests of its own come after the others, where some come before: enough to reach the one that is refused.
 const AFTER: usize = 1_000;
-
-// The S-expression, and its columns.
-const EXPRESSION: &[u8] = b"((1) (2 3) (4 5 6))";
-
-const COLUMNS: usize = 10;
 
 /// A writer that takes no memory, and nothing more once it is full.
 type Fixed = ArrayVec<u8, 64>;
@@ -67,18 +61,6 @@ fn laid_out<'a, T: DocPtr<'a>>(memory: Global, document: &T, width: usize) -> Op
     }
 }
 
-// Formats the S-expression once.
-fn formatted(memory: Global) -> Option<Written> {
-    let mut input = EXPRESSION;
-    let mut out = Fixed::new();
-    let options = RenderOptions::new(COLUMNS);
-    match sexp_formatter::run::run(memory, options, &mut input, &mut out) {
-        Ok(()) => Some(Written::Whole(out)),
-        Err(RunError::Memory(_)) => Some(Written::Beginning(out)),
-        Err(_) => None,
-    }
-}
-
 // A whole layout, which has this beginning.
 fn whole_after(beginning: &[u8], written: Written) -> Option<Fixed> {
     match written {
@@ -92,14 +74,6 @@ fn lay_out<'a, T: DocPtr<'a>>(memory: Global, document: &T, width: usize) -> Opt
     match laid_out(memory, document, width)? {
         Written::Whole(out) => Some(out),
         Written::Beginning(out) => whole_after(out.as_slice(), laid_out(memory, document, width)?),
-    }
-}
-
-// Likewise of the S-expression.
-fn format(memory: Global) -> Option<Fixed> {
-    match formatted(memory)? {
-        Written::Whole(out) => Some(out),
-        Written::Beginning(out) => whole_after(out.as_slice(), formatted(memory)?),
     }
 }
 
@@ -186,12 +160,6 @@ fn print_counted_copies<R: AllocGlobal + Print>(rt: &R) -> Option<()> {
     Some(())
 }
 
-fn print_formatted<R: AllocGlobal + Print>(rt: &R) -> Option<()> {
-    let layout = format(rt.alloc())?;
-    println!(rt; "-- an S-expression").ok()?;
-    Print::write_all(rt, layout.as_slice()).ok()
-}
-
 fn print_all<R: AllocGlobal + Print>(rt: &R) -> Option<()> {
     print_each(rt, "boxes", &BoxAllocator::new(rt.alloc()))?;
     print_each(rt, "counted owners", &RcAllocator::new(rt.alloc()))?;
@@ -200,7 +168,6 @@ fn print_all<R: AllocGlobal + Print>(rt: &R) -> Option<()> {
     print_in_arena(rt, &arena)?;
     print_copies(rt)?;
     print_counted_copies(rt)?;
-    print_formatted(rt)?;
     print_counted(rt)
 }
 
@@ -222,7 +189,7 @@ fn are_granted(memory: Global, count: usize) -> bool {
 fn requests_before<R: Input>(rt: &R) -> Option<usize> {
     let mut input = [0; 20];
     let count = rt.reader().read(&mut input).ok()?;
-    number(&input[..count])
+    from_utf8(&input[..count]).ok()?.parse().ok()
 }
 
 fn run<R: AllocGlobal + Input + Print>(rt: &R) -> Option<()> {

@@ -2,7 +2,7 @@
 use Rattle.std.specs.Prelude.{◌≡◌, ◌≤◌, ◌<◌, ◌⊎◌, ℕ, List, length, take, codes, true, false}
 use Rattle.std.specs.Str.{IsUtf8}
 use Rattle.text_places.specs.Places.{IsPlaceWithin}
-use Rattle.prettyless_area.specs.Overlay.{overlay}
+use Rattle.prettyless_exports.specs.Overlay.{overlay}
 use Rattle.prettyless_exports.specs.Answers.{Holds, IsUntouched}
 use Rattle.toml_formatter.specs.Formats.{HasBadLayout, IsFormattedToml}
 use Rattle.toml_grammar.specs.Grammar.{is_toml}

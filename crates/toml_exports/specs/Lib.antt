@@ -1,4 +1,4 @@
 pub mod Answers
 pub mod Numbers
 pub mod Statuses
-pub use Rattle.prettyless_area.specs.Overlay
+pub use Rattle.prettyless_exports.specs.Overlay

@@ -101,7 +101,11 @@ pub fn toml_layout(
 ) -> u32
     ensures { AnswersToml (limit_of limit) text.now out.old out.new written.new line.new column.new result }
 {
-    let style = Style { width, indent };
+    let style = Style {
+        width,
+        indent,
+        align: true,
+    };
     match laid_out(alloc, text, style, limit_from(limit), out, written) {
         Status::NotToml => refused(alloc, text, out, written, line, column).number(),
         status => {

@@ -24,7 +24,8 @@ use Rattle.toml_formatter.specs.Documents.{draft_with, unclosed_tree, level_with
 use Rattle.toml_formatter.specs.Documents.{draft_with_statement}
 use Rattle.toml_formatter.specs.Drafts.{AreAround, line_end, ReadsFirst, ReadsOn, ReadsPart, ReadsStatement, settled_end, Stands}
 use Rattle.toml_formatter.specs.Gaps.{gap_before_part, gap_before_comma, gap_before_remark}
-use Rattle.toml_formatter.specs.Kinds.{is_closing, is_opening, IsPart, kind_in, last_after, last_after_sort, sort_for}
+use Rattle.toml_formatter.specs.Kinds.{is_closing, is_opening, IsPart, last_after, last_after_sort, sort_for}
+use Rattle.toml_formatter.specs.Numbers.{opened_kind}
 use Rattle.toml_formatter.specs.Lexing.{ClosesNext}
 use Rattle.toml_formatter.specs.Lines.{begun, may_hold}
 use Rattle.toml_formatter.specs.declared.gaps.Gap.{Gap}
@@ -264,9 +265,9 @@ part_stands lv line kind x value doc g l named part kinds is no_comma no_remarks
 -- before a closing bracket, with what waits in its place
 pub closed_same : (lv : Level) (line settled : Line) (kind : Kind) (keeps : Bool) → lv.kind ≡ kind → Stands lv line
     → keeps ≡ comma_kept kind line.last line.comma line.is_remarked → line_end settled ≡ settled_end (record line { comma = keeps })
-    → (trails : Bool) → trails ≡ (is_array kind && ends_item settled.last) → trailed_end trails (line_end settled) ≡ closed_end lv
+    → (trails : Bool) → trails ≡ (is_array kind && ends_item settled.last) → trailed_end trails line.comma (line_end settled) ≡ closed_end lv
 closed_same lv line settled kind keeps kinds h kept is trails test =
-    λ i. trailed_end (tests i) (ends i)
+    λ i. trailed_end (tests i) (h.comma i) (ends i)
   where
     commas : keeps ≡ comma_kept lv.kind (part_end lv).last lv.entry.comma (is_some lv.entry.remarks)
     commas = kept ∙ (λ i. comma_kept (sym kinds i) ((h.end i).last) (h.comma i) (h.remarked i))
@@ -287,41 +288,41 @@ closed_same lv line settled kind keeps kinds h kept is trails test =
 
 -- a part that is no list
 pub plain_levels : (style : Style) (x : Lexeme) → HasTomlKind x → IsPart x → is_opening x ≡ false
-    → (first : Bool) (lv : Level) (lvs : List Level)
-    → levels_with style (sort_of (toml_text_of x)) first lv lvs (toml_text_of x)
+    → (first : Bool) (lv : Level) (lvs : List Level) (ss : List (List ℕ))
+    → levels_with style (sort_of (toml_text_of x)) first lv lvs (toml_text_of x) ss
     ≡ with_part lv (toml_text_of x) (lexeme_tree (toml_text_of x)) ∷ lvs
-plain_levels style lexeme.OpenArray named part e first lv lvs = absurd (cc)
-plain_levels style lexeme.CloseArray named part e first lv lvs = absurd part
-plain_levels style lexeme.OpenTable named part e first lv lvs = absurd (cc)
-plain_levels style lexeme.CloseTable named part e first lv lvs = absurd part
-plain_levels style lexeme.Comma named part e first lv lvs = absurd part
-plain_levels style lexeme.Equals named part e first lv lvs = refl
-plain_levels style lexeme.LineEnd named part e first lv lvs = absurd part
-plain_levels style (lexeme.Remark s) named part e first lv lvs = absurd part
-plain_levels style (lexeme.String s) named part e first lv lvs =
-    ap (λ (k : Sort). levels_with style k first lv lvs s.now) (sort_string s.now named)
-plain_levels style (lexeme.Word s) named part e first lv lvs =
-    ap (λ (k : Sort). levels_with style k first lv lvs s.now) (sort_word s.now named)
+plain_levels style lexeme.OpenArray named part e first lv lvs ss = absurd (cc)
+plain_levels style lexeme.CloseArray named part e first lv lvs ss = absurd part
+plain_levels style lexeme.OpenTable named part e first lv lvs ss = absurd (cc)
+plain_levels style lexeme.CloseTable named part e first lv lvs ss = absurd part
+plain_levels style lexeme.Comma named part e first lv lvs ss = absurd part
+plain_levels style lexeme.Equals named part e first lv lvs ss = refl
+plain_levels style lexeme.LineEnd named part e first lv lvs ss = absurd part
+plain_levels style (lexeme.Remark s) named part e first lv lvs ss = absurd part
+plain_levels style (lexeme.String s) named part e first lv lvs ss =
+    ap (λ (k : Sort). levels_with style k first lv lvs s.now ss) (sort_string s.now named)
+plain_levels style (lexeme.Word s) named part e first lv lvs ss =
+    ap (λ (k : Sort). levels_with style k first lv lvs s.now ss) (sort_word s.now named)
 
 -- a bracket that opens a list
 pub opened_levels : (style : Style) (x : Lexeme) → is_opening x ≡ true
-    → (around kind : Kind) (first : Bool) (lv : Level) (lvs : List Level)
-    → lv.kind ≡ around → kind ≡ kind_in around first (sort_for x)
-    → levels_with style (sort_of (toml_text_of x)) first lv lvs (toml_text_of x) ≡ new_level kind (toml_text_of x) ∷ lv ∷ lvs
-opened_levels style lexeme.OpenArray o around kind first lv lvs kinds is =
-    λ i. new_level ((ap (λ (k : Kind). kind_in k first sort.open_array) kinds
+    → (around kind : Kind) (first : Bool) (lv : Level) (lvs : List Level) (ss : List (List ℕ))
+    → lv.kind ≡ around → kind ≡ opened_kind around first (sort_for x) ss
+    → levels_with style (sort_of (toml_text_of x)) first lv lvs (toml_text_of x) ss ≡ new_level kind (toml_text_of x) ∷ lv ∷ lvs
+opened_levels style lexeme.OpenArray o around kind first lv lvs ss kinds is =
+    λ i. new_level ((ap (λ (k : Kind). opened_kind k first sort.open_array ss) kinds
     ∙ sym is) i) (toml_text_of lexeme.OpenArray) ∷ lv ∷ lvs
-opened_levels style lexeme.OpenTable o around kind first lv lvs kinds is =
-    λ i. new_level ((ap (λ (k : Kind). kind_in k first sort.open_table) kinds
+opened_levels style lexeme.OpenTable o around kind first lv lvs ss kinds is =
+    λ i. new_level ((ap (λ (k : Kind). opened_kind k first sort.open_table ss) kinds
     ∙ sym is) i) (toml_text_of lexeme.OpenTable) ∷ lv ∷ lvs
-opened_levels style lexeme.CloseArray o around kind first lv lvs kinds is = absurd (cc)
-opened_levels style lexeme.CloseTable o around kind first lv lvs kinds is = absurd (cc)
-opened_levels style lexeme.Comma o around kind first lv lvs kinds is = absurd (cc)
-opened_levels style lexeme.Equals o around kind first lv lvs kinds is = absurd (cc)
-opened_levels style lexeme.LineEnd o around kind first lv lvs kinds is = absurd (cc)
-opened_levels style (lexeme.Remark s) o around kind first lv lvs kinds is = absurd (cc)
-opened_levels style (lexeme.String s) o around kind first lv lvs kinds is = absurd (cc)
-opened_levels style (lexeme.Word s) o around kind first lv lvs kinds is = absurd (cc)
+opened_levels style lexeme.CloseArray o around kind first lv lvs ss kinds is = absurd (cc)
+opened_levels style lexeme.CloseTable o around kind first lv lvs ss kinds is = absurd (cc)
+opened_levels style lexeme.Comma o around kind first lv lvs ss kinds is = absurd (cc)
+opened_levels style lexeme.Equals o around kind first lv lvs ss kinds is = absurd (cc)
+opened_levels style lexeme.LineEnd o around kind first lv lvs ss kinds is = absurd (cc)
+opened_levels style (lexeme.Remark s) o around kind first lv lvs ss kinds is = absurd (cc)
+opened_levels style (lexeme.String s) o around kind first lv lvs ss kinds is = absurd (cc)
+opened_levels style (lexeme.Word s) o around kind first lv lvs ss kinds is = absurd (cc)
 
 -- a bracket that closes one
 pub closed_reads : (style : Style) (x : Lexeme) → is_closing x ≡ true
@@ -344,7 +345,7 @@ closed_reads style (lexeme.Word s) c d lv outer lvs left = absurd (cc)
 pub part_reads : (style : Style) (x : Lexeme) → HasTomlKind x → IsPart x
     → (d : Draft) (lv : Level) (lvs : List Level) (left : List (List ℕ))
     → document_from style (record d { levels = lv ∷ lvs }) (toml_text_of x ∷ left)
-    ≡ document_from style (record d { levels = levels_with style (sort_of (toml_text_of x)) false lv lvs (toml_text_of x) }) left
+    ≡ document_from style (record d { levels = levels_with style (sort_of (toml_text_of x)) false lv lvs (toml_text_of x) left }) left
 unfolding document_from
 part_reads style lexeme.OpenArray named part d lv lvs left = refl
 part_reads style lexeme.OpenTable named part d lv lvs left = refl
@@ -356,17 +357,17 @@ part_reads style lexeme.LineEnd named part d lv lvs left = absurd part
 part_reads style (lexeme.Remark s) named part d lv lvs left = absurd part
 part_reads style (lexeme.String s) named part d lv lvs left =
     let e = sort_string s.now named in
-    ap (λ (k : Sort). document_from style (draft_with style k (record d { levels = lv ∷ lvs }) s.now) left) e
-    ∙ sym (ap (λ (k : Sort). document_from style (record d { levels = levels_with style k false lv lvs s.now }) left) e)
+    ap (λ (k : Sort). document_from style (draft_with style k (record d { levels = lv ∷ lvs }) s.now left) left) e
+    ∙ sym (ap (λ (k : Sort). document_from style (record d { levels = levels_with style k false lv lvs s.now left }) left) e)
 part_reads style (lexeme.Word s) named part d lv lvs left =
     let e = sort_word s.now named in
-    ap (λ (k : Sort). document_from style (draft_with style k (record d { levels = lv ∷ lvs }) s.now) left) e
-    ∙ sym (ap (λ (k : Sort). document_from style (record d { levels = levels_with style k false lv lvs s.now }) left) e)
+    ap (λ (k : Sort). document_from style (draft_with style k (record d { levels = lv ∷ lvs }) s.now left) left) e
+    ∙ sym (ap (λ (k : Sort). document_from style (record d { levels = levels_with style k false lv lvs s.now left }) left) e)
 
 -- the part that a statement begins with
 pub first_reads : (style : Style) (x : Lexeme) → HasTomlKind x → IsPart x → (d : Draft) (left : List (List ℕ))
     → document_from style (record d { levels = [] }) (toml_text_of x ∷ left)
-    ≡ document_from style (record d { levels = levels_with style (sort_of (toml_text_of x)) true new_statement [] (toml_text_of x) }) left
+    ≡ document_from style (record d { levels = levels_with style (sort_of (toml_text_of x)) true new_statement [] (toml_text_of x) left }) left
 unfolding document_from
 first_reads style lexeme.OpenArray named part d left = refl
 first_reads style lexeme.OpenTable named part d left = refl
@@ -378,12 +379,12 @@ first_reads style lexeme.LineEnd named part d left = absurd part
 first_reads style (lexeme.Remark s) named part d left = absurd part
 first_reads style (lexeme.String s) named part d left =
     let e = sort_string s.now named in
-    ap (λ (k : Sort). document_from style (draft_with style k (record d { levels = [] }) s.now) left) e
-    ∙ sym (ap (λ (k : Sort). document_from style (record d { levels = levels_with style k true new_statement [] s.now }) left) e)
+    ap (λ (k : Sort). document_from style (draft_with style k (record d { levels = [] }) s.now left) left) e
+    ∙ sym (ap (λ (k : Sort). document_from style (record d { levels = levels_with style k true new_statement [] s.now left }) left) e)
 first_reads style (lexeme.Word s) named part d left =
     let e = sort_word s.now named in
-    ap (λ (k : Sort). document_from style (draft_with style k (record d { levels = [] }) s.now) left) e
-    ∙ sym (ap (λ (k : Sort). document_from style (record d { levels = levels_with style k true new_statement [] s.now }) left) e)
+    ap (λ (k : Sort). document_from style (draft_with style k (record d { levels = [] }) s.now left) left) e
+    ∙ sym (ap (λ (k : Sort). document_from style (record d { levels = levels_with style k true new_statement [] s.now left }) left) e)
 
 -- ---- lists
 
@@ -410,13 +411,13 @@ closing_reads_next style s between left (inr (y, rest, e, c)) is d lv outer lvs 
 
 -- a list whose brackets are closed
 pub list_reads : (style : Style) (x : Lexeme) (s : List ℕ) → is_opening x ≡ true → (around kind : Kind) (first : Bool)
-    → kind ≡ kind_in around first (sort_for x) → (old between left : List (List ℕ)) (line : Line) (tree : Tree)
+    → (old between left : List (List ℕ)) → kind ≡ opened_kind around first (sort_for x) old → (line : Line) (tree : Tree)
     → ReadsOn style true (new_level kind (toml_text_of x)) old between line → ClosesNext between → between ≡ s ∷ left
     → ((lv : Level) → lv.kind ≡ kind → lv.opening ≡ toml_text_of x → Stands lv line → tree ≡ list_tree style lv s)
     → ReadsPart style around first (toml_text_of x) old left tree
-list_reads style x s o around kind first is old between left line tree h c e trees = λ d lv lvs kinds.
+list_reads style x s o around kind first old between left is line tree h c e trees = λ d lv lvs kinds.
     ap (λ (ls : List Level). document_from style (record d { levels = ls }) old)
-    (opened_levels style x o around kind first lv lvs kinds is)
+    (opened_levels style x o around kind first lv lvs old kinds is)
     ∙ h.same d (lv ∷ lvs) tt
     ∙ closing_reads_next style s between left c e d h.level lv lvs
     ∙ (λ i. document_from style (record d {
@@ -432,18 +433,18 @@ unclosed_reads style d lv outer lvs = refl
 
 -- a list that the text ends in
 pub unclosed_list_reads : (style : Style) (x : Lexeme) → is_opening x ≡ true → (around kind : Kind) (first : Bool)
-    → kind ≡ kind_in around first (sort_for x) → (old between left : List (List ℕ)) (line : Line) (tree : Tree)
+    → (old between left : List (List ℕ)) → kind ≡ opened_kind around first (sort_for x) old → (line : Line) (tree : Tree)
     → ReadsOn style true (new_level kind (toml_text_of x)) old between line → between ≡ [] → left ≡ []
     → ((lv : Level) → lv.opening ≡ toml_text_of x → Stands lv line → tree ≡ unclosed_tree lv)
     → ReadsPart style around first (toml_text_of x) old left tree
-unclosed_list_reads style x o around kind first is old between left line tree h e none trees = λ d lv lvs kinds.
+unclosed_list_reads style x o around kind first old between left is line tree h e none trees = λ d lv lvs kinds.
     let s = toml_text_of x in
     let same : document_from style (record d { levels = with_part lv h.level.opening (unclosed_tree h.level) ∷ lvs }) []
     ≡ document_from style (record d { levels = with_part lv s tree ∷ lvs }) [] =
     λ i. document_from style
     (record d { levels = with_part lv (h.opening refl i) (sym (trees h.level (h.opening refl) h.stands) i) ∷ lvs }) [] in
     ap (λ (ls : List Level). document_from style (record d { levels = ls }) old)
-    (opened_levels style x o around kind first lv lvs kinds is)
+    (opened_levels style x o around kind first lv lvs old kinds is)
     ∙ h.same d (lv ∷ lvs) tt
     ∙ ap (λ (ss : List (List ℕ)). document_from style (record d { levels = h.level ∷ lv ∷ lvs }) ss) e
     ∙ unclosed_reads style d h.level lv lvs
@@ -528,7 +529,7 @@ remark_same : (style : Style) (d : Draft) (lv : Level) (lvs : List Level) (s : L
     ≡ document_from style (record d { levels = with_remark lv s ∷ lvs }) left
 unfolding document_from
 remark_same style d lv lvs s left named =
-    ap (λ (k : Sort). document_from style (draft_with style k (record d { levels = lv ∷ lvs }) s) left) (sort_remark s named)
+    ap (λ (k : Sort). document_from style (draft_with style k (record d { levels = lv ∷ lvs }) s left) left) (sort_remark s named)
 
 -- a remark was taken
 pub remark_reads : (style : Style) (nested : Bool) (lv : Level) (s t : List ℕ) (left : List (List ℕ)) (made : Line) → s ≡ t
@@ -614,7 +615,7 @@ pub remark_first_reads : (style : Style) (d : Draft) (s : List ℕ) (left : List
     ≡ document_from style (record d { levels = with_part new_statement s (counted.text (trimmed s)) ∷ [] }) left
 unfolding document_from
 remark_first_reads style d s left named =
-    ap (λ (k : Sort). document_from style (draft_with style k (record d { levels = [] }) s) left) (sort_remark s named)
+    ap (λ (k : Sort). document_from style (draft_with style k (record d { levels = [] }) s left) left) (sort_remark s named)
 
 closing_same_levels : (style : Style) (x : Lexeme) → is_closing x ≡ true → (d : Draft) (lv : Level) (left : List (List ℕ))
     → document_from style (record d { levels = lv ∷ [] }) (toml_text_of x ∷ left)

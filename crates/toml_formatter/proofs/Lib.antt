@@ -7,3 +7,4 @@ pub mod Documents
 pub mod LineLemmas
 pub mod Trims
 pub mod Values
+pub mod Aligning

@@ -7,7 +7,7 @@ use Rattle.toml_statements.specs.Statements.{Role, a_remark, a_closing, role, tr
 use Rattle.toml_statements.specs.Statements.{with_held_comma, with_role, with_lexeme, with_lexemes}
 use Rattle.toml_statements.specs.Shown.{Stage, IsWholeLexeme, IsInside, MayStand, AreRead, after_shown, least_between}
 use Rattle.toml_formatter.specs.declared.gaps.Gap.{Gap as Between}
-use Rattle.toml_formatter.specs.declared.gaps.Gap.TheVariants.{Nothing, Space, Edge, Line, BlankLine, Break, BlankBreak}
+use Rattle.toml_formatter.specs.declared.gaps.Gap.TheVariants.{Nothing, Space, Beside, Edge, Line, Fill, BlankLine, Break, BlankBreak}
 use Rattle.toml_formatter.specs.declared.kind.Last.{Last}
 use Rattle.toml_formatter.specs.Gaps.{gap_items, least_of, stays, Suits}
 use Rattle.toml_formatter.specs.Lines.{directly_after, before_next, IsNested, EndsAs, Agrees, AreRemarks, WaitingRemarks, waiting}
@@ -39,8 +39,10 @@ inside_line c h = inside_at c.depth c h
 abbrev pub at_gap : Collected → List ℕ → Between → Bool → Stage
 at_gap c t Nothing m = record { collected = c; last = t; place = shown.after_text; marked = m }
 at_gap c t Space m = record { collected = c; last = t; place = After SameLine Spacing; marked = m }
+at_gap c t Beside m = record { collected = c; last = t; place = After SameLine Spacing; marked = m }
 at_gap c t Edge m = record { collected = c; last = t; place = After AnyLine shown.Nothing; marked = m }
 at_gap c t Line m = record { collected = c; last = t; place = After AnyLine Spacing; marked = m }
+at_gap c t Fill m = record { collected = c; last = t; place = After AnyLine Spacing; marked = m }
 at_gap c t BlankLine m = record { collected = c; last = t; place = After AnyLine Spacing; marked = m }
 at_gap c t Break m = record { collected = c; last = t; place = After AnyLine LineEnd; marked = m }
 at_gap c t BlankBreak m = record { collected = c; last = t; place = After AnyLine LineEnd; marked = m }
@@ -53,8 +55,10 @@ pub gap_read : (c : Collected) (t : List ℕ) (m : Bool) (gap : Between) (items 
     → AreRead (at_gap c t gap m) items b → AreRead (after_mark c t m) (gap_items gap ++ items) b
 gap_read c t m Nothing items b h = h
 gap_read c t m Space items b h = h
+gap_read c t m Beside items b h = h
 gap_read c t m Edge items b h = h
 gap_read c t m Line items b h = h
+gap_read c t m Fill items b h = h
 gap_read c t m BlankLine items b h = h
 gap_read c t m Break items b h = h
 gap_read c t m BlankBreak items b h = h
@@ -66,10 +70,14 @@ stands c t Nothing s e h true k = record { apart = e; lines = tt; mark = k refl 
 stands c t Nothing s e h false k = record { apart = e; lines = tt; mark = tt }
 stands c t Space s e h true k = record { apart = e; lines = tt; mark = k refl }
 stands c t Space s e h false k = record { apart = e; lines = tt; mark = tt }
+stands c t Beside s e h true k = record { apart = e; lines = tt; mark = k refl }
+stands c t Beside s e h false k = record { apart = e; lines = tt; mark = tt }
 stands c t Edge s e h true k = record { apart = e; lines = inside_line c (h refl); mark = k refl }
 stands c t Edge s e h false k = record { apart = e; lines = inside_line c (h refl); mark = tt }
 stands c t Line s e h true k = record { apart = e; lines = inside_line c (h refl); mark = k refl }
+stands c t Fill s e h true k = record { apart = e; lines = inside_line c (h refl); mark = k refl }
 stands c t Line s e h false k = record { apart = e; lines = inside_line c (h refl); mark = tt }
+stands c t Fill s e h false k = record { apart = e; lines = inside_line c (h refl); mark = tt }
 stands c t BlankLine s e h true k = record { apart = e; lines = inside_line c (h refl); mark = k refl }
 stands c t BlankLine s e h false k = record { apart = e; lines = inside_line c (h refl); mark = tt }
 stands c t Break s e h true k = record { apart = e; lines = tt; mark = k refl }
@@ -82,8 +90,10 @@ pub gap_keeps : (c : Collected) (t : List ℕ) (gap : Between) (m : Bool) → (s
     → before_next (at_gap c t gap m) ≡ c
 gap_keeps c t Nothing m h = refl
 gap_keeps c t Space m h = refl
+gap_keeps c t Beside m h = refl
 gap_keeps c t Edge m h = refl
 gap_keeps c t Line m h = refl
+gap_keeps c t Fill m h = refl
 gap_keeps c t BlankLine m h = refl
 gap_keeps c t Break m h = inside_line c (h refl)
 gap_keeps c t BlankBreak m h = inside_line c (h refl)
@@ -93,8 +103,10 @@ pub shown_after : (c : Collected) (t : List ℕ) (gap : Between) (s : List ℕ) 
     → after_shown (at_gap c t gap m) s ≡ directly_after (with_lexeme (before_next (at_gap c t gap m)) s) s
 shown_after c t Nothing s m = refl
 shown_after c t Space s m = refl
+shown_after c t Beside s m = refl
 shown_after c t Edge s m = refl
 shown_after c t Line s m = refl
+shown_after c t Fill s m = refl
 shown_after c t BlankLine s m = refl
 shown_after c t Break s m = refl
 shown_after c t BlankBreak s m = refl

@@ -2,7 +2,7 @@
 -- part of a key or value, then a comma, then remarks. An entry is laid out once it is whole: its comma stands before its remarks.
 use Rattle.std.specs.Prelude.{ℕ, pos, Bool, true, false, cond, ◌&&◌, ◌||◌, ◌==◌, List, [], ◌∷◌, Option, Some, None}
 use Rattle.std.specs.List.{list_any}
-use Rattle.prettyless.specs.Built.{append, group, nest}
+use Rattle.prettyless.specs.Built.{append, group, nest, softline}
 use Rattle.prettyless.specs.Counted as counted
 use Rattle.prettyless.specs.Lines.{line, line_, space}
 use Rattle.prettyless.specs.Tree.{Tree, Nil, TextWithLen, HardLine, ExpandParent, BreakOrFlat}
@@ -11,12 +11,13 @@ use Rattle.toml_grammar.specs.Sorts as sort
 use Rattle.toml_grammar.specs.Sorts.{Sort, sort_of}
 use Rattle.toml_statements.specs.Statements.{trimmed}
 use Rattle.toml_formatter.specs.Gaps.{gap_before_part, gap_before_comma, gap_before_remark, gap_before_close}
-use Rattle.toml_formatter.specs.Kinds.{kind_in, last_after_sort}
+use Rattle.toml_formatter.specs.Kinds.{last_after_sort}
 use Rattle.toml_formatter.specs.Lines.{may_hold}
+use Rattle.toml_formatter.specs.Numbers.{opened_kind}
 use Rattle.toml_formatter.specs.declared.gaps.Gap.{Gap}
 use Rattle.toml_formatter.specs.declared.gaps.Gap.TheVariants as gap
 use Rattle.toml_formatter.specs.declared.kind.Kind.{Kind}
-use Rattle.toml_formatter.specs.declared.kind.Kind.TheVariants.{Statement, Header, Table, Array}
+use Rattle.toml_formatter.specs.declared.kind.Kind.TheVariants.{Statement, Header, Table, Array, Numbers}
 use Rattle.toml_formatter.specs.declared.kind.Last.{Last}
 use Rattle.toml_formatter.specs.declared.kind.Last.TheVariants as last
 use Rattle.toml_formatter.specs.declared.style.Style.{Style}
@@ -27,8 +28,10 @@ use Rattle.toml_formatter.specs.declared.style.Style.{Style}
 abbrev pub separated : Gap → Tree → Tree → Tree
 separated gap.Nothing x y = append x y
 separated gap.Space x y = append (append x space) y
+separated gap.Beside x y = append (append x (TextWithLen 0 (byte.blank_space ∷ []))) y
 separated gap.Edge x y = append (append x line_) y
 separated gap.Line x y = append (append x line) y
+separated gap.Fill x y = append (append x softline) y
 separated gap.BlankLine x y = append (append (append x line_) line) y
 separated gap.Break x y = append (append x HardLine) y
 separated gap.BlankBreak x y = append (append (append x HardLine) HardLine) y
@@ -192,6 +195,7 @@ is_array Statement = false
 is_array Header = false
 is_array Table = false
 is_array Array = true
+is_array Numbers = true
 
 -- what ends so is the part of an item
 abbrev pub ends_item : Last → Bool
@@ -207,17 +211,18 @@ ends_item last.Remark = false
 abbrev pub comma_kept : Kind → Last → Bool → Bool → Bool
 comma_kept kind l comma remarked = cond (may_hold l) comma (is_array kind && (ends_item l && remarked))
 
--- with a comma after the last item where lines are broken
-abbrev pub trailed_end : Bool → End → End
-trailed_end false e = e
-trailed_end true e = record e { tree = append e.tree (BreakOrFlat (counted.text (byte.comma ∷ [])) Nil) }
+-- with a comma after the last item where lines are broken, as they are where it has one already
+abbrev pub trailed_end : Bool → Bool → End → End
+trailed_end false comma e = e
+trailed_end true comma e =
+    record e { tree = broken_if comma (append e.tree (BreakOrFlat (counted.text (byte.comma ∷ [])) Nil)) }
 
 -- the document before a closing bracket
 abbrev pub closed_end : Level → End
 closed_end lv =
     let comma = comma_kept lv.kind (part_end lv).last lv.entry.comma (is_some lv.entry.remarks) in
     let e = after_rest lv.kind (record lv.entry { comma = comma }) (part_end lv) in
-    trailed_end (is_array lv.kind && ends_item e.last) e
+    trailed_end (is_array lv.kind && ends_item e.last) lv.entry.comma e
 
 -- by how many columns what is in brackets is indented
 abbrev pub indent_in : Style → Kind → ℕ
@@ -225,6 +230,7 @@ indent_in style Statement = 0
 indent_in style Header = 0
 indent_in style Table = 0
 indent_in style Array = style.indent
+indent_in style Numbers = style.indent
 
 -- what is in brackets, between them
 abbrev pub list_tree : Style → Level → List ℕ → Tree
@@ -248,23 +254,23 @@ abbrev pub levels_closed : Style → Level → List Level → List ℕ → List 
 levels_closed style lv [] s = with_part new_statement s (append (closed_end lv).tree (counted.text s)) ∷ []
 levels_closed style lv (outer ∷ lvs) s = with_part outer lv.opening (list_tree style lv s) ∷ lvs
 
--- one more lexeme of this sort in the innermost level, first or not
-abbrev pub levels_with : Style → Sort → Bool → Level → List Level → List ℕ → List Level
-levels_with style sort.open_array first lv lvs s = new_level (kind_in lv.kind first sort.open_array) s ∷ lv ∷ lvs
-levels_with style sort.open_table first lv lvs s = new_level (kind_in lv.kind first sort.open_table) s ∷ lv ∷ lvs
-levels_with style sort.close_array first lv lvs s = levels_closed style lv lvs s
-levels_with style sort.close_table first lv lvs s = levels_closed style lv lvs s
-levels_with style sort.comma first lv lvs s = level_with_comma lv ∷ lvs
-levels_with style sort.remark first lv lvs s = with_remark lv s ∷ lvs
-levels_with style k first lv lvs s = with_part lv s (lexeme_tree s) ∷ lvs
+-- one more lexeme of this sort in the innermost level, first or not, in front of others
+abbrev pub levels_with : Style → Sort → Bool → Level → List Level → List ℕ → List (List ℕ) → List Level
+levels_with style sort.open_array first lv lvs s ss = new_level (opened_kind lv.kind first sort.open_array ss) s ∷ lv ∷ lvs
+levels_with style sort.open_table first lv lvs s ss = new_level (opened_kind lv.kind first sort.open_table ss) s ∷ lv ∷ lvs
+levels_with style sort.close_array first lv lvs s ss = levels_closed style lv lvs s
+levels_with style sort.close_table first lv lvs s ss = levels_closed style lv lvs s
+levels_with style sort.comma first lv lvs s ss = level_with_comma lv ∷ lvs
+levels_with style sort.remark first lv lvs s ss = with_remark lv s ∷ lvs
+levels_with style k first lv lvs s ss = with_part lv s (lexeme_tree s) ∷ lvs
 
 -- the first lexeme of a statement
-abbrev pub first_levels : Style → Sort → List ℕ → List Level
-first_levels style sort.close_array s = with_part new_statement s (counted.text s) ∷ []
-first_levels style sort.close_table s = with_part new_statement s (counted.text s) ∷ []
-first_levels style sort.comma s = with_part new_statement s (counted.text s) ∷ []
-first_levels style sort.remark s = with_part new_statement s (counted.text (trimmed s)) ∷ []
-first_levels style k s = levels_with style k true new_statement [] s
+abbrev pub first_levels : Style → Sort → List ℕ → List (List ℕ) → List Level
+first_levels style sort.close_array s ss = with_part new_statement s (counted.text s) ∷ []
+first_levels style sort.close_table s ss = with_part new_statement s (counted.text s) ∷ []
+first_levels style sort.comma s ss = with_part new_statement s (counted.text s) ∷ []
+first_levels style sort.remark s ss = with_part new_statement s (counted.text (trimmed s)) ∷ []
+first_levels style k s ss = levels_with style k true new_statement [] s ss
 
 -- ---- texts
 
@@ -297,14 +303,14 @@ with_ended_line d (lv ∷ []) = draft_with_statement d (level_end lv).tree
 with_ended_line d (lv ∷ outer ∷ lvs) = record d { levels = with_line_end lv ∷ outer ∷ lvs }
 
 -- after another lexeme of this sort
-abbrev pub levels_after : Style → Sort → List Level → List ℕ → List Level
-levels_after style k [] s = first_levels style k s
-levels_after style k (lv ∷ lvs) s = levels_with style k false lv lvs s
+abbrev pub levels_after : Style → Sort → List Level → List ℕ → List (List ℕ) → List Level
+levels_after style k [] s ss = first_levels style k s ss
+levels_after style k (lv ∷ lvs) s ss = levels_with style k false lv lvs s ss
 
--- after one more lexeme of this sort
-abbrev pub draft_with : Style → Sort → Draft → List ℕ → Draft
-draft_with style sort.line_end d s = with_ended_line d d.levels
-draft_with style k d s = record d { levels = levels_after style k d.levels s }
+-- after one more lexeme of this sort, in front of others
+abbrev pub draft_with : Style → Sort → Draft → List ℕ → List (List ℕ) → Draft
+draft_with style sort.line_end d s ss = with_ended_line d d.levels
+draft_with style k d s ss = record d { levels = levels_after style k d.levels s ss }
 
 -- a level with those in it for which the text has no closing bracket
 abbrev pub level_with : Level → List Level → Level
@@ -319,7 +325,7 @@ ended_in d (lv ∷ lvs) = (draft_with_statement d (level_end (level_with lv lvs)
 -- the document, where these lexemes are left
 unfoldable pub document_from : Style → Draft → List (List ℕ) → Tree
 document_from style d [] = ended_in d d.levels
-document_from style d (s ∷ ss) = document_from style (draft_with style (sort_of s) d s) ss
+document_from style d (s ∷ ss) = document_from style (draft_with style (sort_of s) d s ss) ss
 
 -- the document of the lexemes of a text
 abbrev pub toml_document : Style → List (List ℕ) → Tree

@@ -42,7 +42,7 @@ AreAround false (lv ∷ lvs) = ⊥
 abbrev pub ReadsPart : Style → Kind → Bool → List ℕ → List (List ℕ) → List (List ℕ) → Tree → Type 0
 ReadsPart style around first s old new tree =
     (d : Draft) (lv : Level) (lvs : List Level) → lv.kind ≡ around
-    → document_from style (record d { levels = levels_with style (sort_of s) first lv lvs s }) old
+    → document_from style (record d { levels = levels_with style (sort_of s) first lv lvs s old }) old
     ≡ document_from style (record d { levels = with_part lv s tree ∷ lvs }) new
 
 -- the same where the level goes on to one at which the line is

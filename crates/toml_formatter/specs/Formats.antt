@@ -1,11 +1,12 @@
 -- What formatting a text answers.
-use Rattle.std.specs.Prelude.{◌≡◌, ℕ, true, false, List}
+use Rattle.std.specs.Prelude.{◌≡◌, ◌⊎◌, ℕ, true, false, List}
 use Rattle.prettyless.specs.Layout.{Whole, layout}
 use Rattle.prettyless.specs.Tree.{Tree}
 use Rattle.prettyless_model.specs.declared.options.IndentationPolicy.TheVariants.{Deferred}
 use Rattle.prettyless_model.specs.declared.options.LineEnding.{LineEnding}
 use Rattle.prettyless_model.specs.declared.options.RenderOptions.{RenderOptions}
 use Rattle.toml_lexemes.specs.Lexemes.{toml_lexemes_of}
+use Rattle.toml_formatter.specs.Alignment.{with_aligned_comments, with_comments_as}
 use Rattle.toml_formatter.specs.Documents.{toml_document}
 use Rattle.toml_formatter.specs.declared.style.Style.{Style}
 use Rattle.toml_grammar.specs.Grammar.{is_toml}
@@ -35,16 +36,30 @@ abbrev pub HasTomlOptions : Style → RenderOptions → Type 0
 HasTomlOptions style options = (ending : LineEnding) × (options ≡ toml_options style ending)
 
 -- These bytes are the layout of the document of the text's lexemes, at the style's width. All lines end alike.
-pub record IsLaidToml (style : Style) (text bytes : List ℕ) : Type 0 where
+pub record IsLaidTomlDocument (style : Style) (text bytes : List ℕ) : Type 0 where
   pub ending : LineEnding
   pub laid : layout (toml_options style ending) (toml_document style (toml_lexemes_of text)) ≡ Whole bytes
 
+-- The same, with comments aligned where the style says so.
+pub record IsLaidToml (style : Style) (text bytes : List ℕ) : Type 0 where
+  pub before : List ℕ
+  pub laid : IsLaidTomlDocument style text before
+  pub aligned : bytes ≡ with_comments_as style before
+
 -- These bytes are the layout of a document that shows the statements of the text.
-pub record IsTomlLayout (text bytes : List ℕ) : Type 0 where
+pub record ShowsToml (text bytes : List ℕ) : Type 0 where
   pub document : Tree
   pub options : RenderOptions
   pub shows : HasStatements text document
   pub laid : layout options document ≡ Whole bytes
+  -- They have the same statements.
+  pub same : statements bytes ≡ statements text
+
+-- These bytes are such a layout, with comments aligned or not.
+pub record IsTomlLayout (text bytes : List ℕ) : Type 0 where
+  pub before : List ℕ
+  pub shown : ShowsToml text before
+  pub aligned : (bytes ≡ before) ⊎ (bytes ≡ with_aligned_comments before)
   -- They have the same statements.
   pub same : statements bytes ≡ statements text
 

@@ -6,9 +6,9 @@ use Rattle.toml_lexemes.specs.Bytes.{is_quote, ends_word}
 use Rattle.toml_grammar.specs.Sorts as sort
 use Rattle.toml_grammar.specs.Sorts.{Sort}
 use Rattle.toml_formatter.specs.declared.gaps.Gap.{Gap}
-use Rattle.toml_formatter.specs.declared.gaps.Gap.TheVariants.{Nothing, Space, Edge, Line, BlankLine, Break, BlankBreak}
+use Rattle.toml_formatter.specs.declared.gaps.Gap.TheVariants.{Nothing, Space, Beside, Edge, Line, Fill, BlankLine, Break, BlankBreak}
 use Rattle.toml_formatter.specs.declared.kind.Kind.{Kind}
-use Rattle.toml_formatter.specs.declared.kind.Kind.TheVariants.{Statement, Header, Table, Array}
+use Rattle.toml_formatter.specs.declared.kind.Kind.TheVariants.{Statement, Header, Table, Array, Numbers}
 use Rattle.toml_formatter.specs.declared.kind.Last.{Last}
 use Rattle.toml_formatter.specs.declared.kind.Last.TheVariants.{Start, Close, Equals, Word, String, Comma, Remark}
 
@@ -16,8 +16,10 @@ use Rattle.toml_formatter.specs.declared.kind.Last.TheVariants.{Start, Close, Eq
 abbrev pub gap_items : Gap → List Item
 gap_items Nothing = []
 gap_items Space = spaced ∷ []
+gap_items Beside = spaced ∷ []
 gap_items Edge = loose ∷ []
 gap_items Line = apart ∷ []
+gap_items Fill = apart ∷ []
 gap_items BlankLine = loose ∷ apart ∷ []
 gap_items Break = ended ∷ []
 gap_items BlankBreak = ended ∷ ended ∷ []
@@ -26,8 +28,10 @@ gap_items BlankBreak = ended ∷ ended ∷ []
 abbrev pub least_of : Gap → Least
 least_of Nothing = shown.Nothing
 least_of Space = Spacing
+least_of Beside = Spacing
 least_of Edge = shown.Nothing
 least_of Line = Spacing
+least_of Fill = Spacing
 least_of BlankLine = Spacing
 least_of Break = LineEnd
 least_of BlankBreak = LineEnd
@@ -36,8 +40,10 @@ least_of BlankBreak = LineEnd
 abbrev pub stays : Gap → Bool
 stays Nothing = true
 stays Space = true
+stays Beside = true
 stays Edge = false
 stays Line = false
+stays Fill = false
 stays BlankLine = false
 stays Break = false
 stays BlankBreak = false
@@ -48,6 +54,7 @@ is_nested Statement = false
 is_nested Header = true
 is_nested Table = true
 is_nested Array = true
+is_nested Numbers = true
 
 abbrev pub is_last_remark : Last → Bool
 is_last_remark Start = false
@@ -85,6 +92,7 @@ gap_after_comma Statement blank = Space
 gap_after_comma Header blank = Space
 gap_after_comma Table blank = Space
 gap_after_comma Array blank = cond blank BlankLine Line
+gap_after_comma Numbers blank = cond blank BlankLine Fill
 
 -- inside the brackets of a list
 abbrev pub edge_gap : Kind → Gap
@@ -92,6 +100,7 @@ edge_gap Statement = Nothing
 edge_gap Header = Nothing
 edge_gap Table = Space
 edge_gap Array = Edge
+edge_gap Numbers = Edge
 
 -- before a lexeme of this sort of the same key or value
 abbrev pub gap_on_line : Last → Sort → Gap
@@ -116,9 +125,9 @@ gap_before_comma l = Nothing
 -- before a remark, where no line ended and where one did; a blank line after an opening bracket goes
 abbrev pub gap_before_first_remark : Kind → Last → Bool → Bool → Gap
 gap_before_first_remark kind Remark broken blank = line_break blank
-gap_before_first_remark Statement l broken blank = Space
-gap_before_first_remark kind Start broken blank = cond broken Break Space
-gap_before_first_remark kind l broken blank = cond broken (line_break blank) Space
+gap_before_first_remark Statement l broken blank = Beside
+gap_before_first_remark kind Start broken blank = cond broken Break Beside
+gap_before_first_remark kind l broken blank = cond broken (line_break blank) Beside
 
 -- before a remark, which other remarks stand before or not
 abbrev pub gap_before_remark : Kind → Last → Bool → Bool → Bool → Gap

@@ -5,7 +5,7 @@ use Rattle.toml_lexemes.specs.declared.lexeme.Lexeme.TheVariants as lexeme
 use Rattle.toml_grammar.specs.Sorts as sort
 use Rattle.toml_grammar.specs.Sorts.{Sort}
 use Rattle.toml_formatter.specs.declared.kind.Kind.{Kind}
-use Rattle.toml_formatter.specs.declared.kind.Kind.TheVariants.{Statement, Header, Table, Array}
+use Rattle.toml_formatter.specs.declared.kind.Kind.TheVariants.{Statement, Header, Table, Array, Numbers}
 use Rattle.toml_formatter.specs.declared.kind.Last.{Last}
 use Rattle.toml_formatter.specs.declared.kind.Last.TheVariants as last
 
@@ -88,6 +88,7 @@ array_in Statement false = Array
 array_in Header first = Header
 array_in Table first = Array
 array_in Array first = Array
+array_in Numbers first = Array
 
 -- what a bracket of this sort opens where it stands in this, first or not
 abbrev pub kind_in : Kind → Bool → Sort → Kind

@@ -3,8 +3,10 @@ pub mod Depths
 pub mod Formats
 pub mod Gaps
 pub mod Kinds
+pub mod Numbers
 pub mod Lexing
 pub mod Lines
 pub mod Ahead
+pub mod Alignment
 pub mod Documents
 pub mod Drafts

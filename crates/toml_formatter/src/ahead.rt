@@ -39,6 +39,16 @@ impl<'a> Ahead<'a> {
         Ahead { lexer, next }
     }
 
+    /// The same lexemes once more.
+    pub(crate) fn again(&self) -> Ahead<'a>
+        ensures { result ≡ self.now }
+    {
+        Ahead {
+            lexer: self.lexer.again(),
+            next: self.next,
+        }
+    }
+
     /// Takes the next lexeme, or answers `None` where none is left.
     pub(crate) fn next(&mut self) -> Option<Lexeme<'a>>
         ensures next { MatchOption result ((self.old ≡ []) × (self.new ≡ []))

@@ -15,10 +15,14 @@ use toml_lexemes::Lexeme;
 pub(crate) enum Gap {
     Nothing,
     Space,
+    /// A space that counts no columns.
+    Beside,
     /// A line end, or nothing where lines are flat.
     Edge,
     /// A line end, or a space where lines are flat.
     Line,
+    /// A line end only where the line has no room for what comes next, and else a space.
+    Fill,
     /// The same with a blank line where lines are broken.
     BlankLine,
     /// A line end.
@@ -41,8 +45,9 @@ fn after_comma(kind: Kind, blank: bool) -> Gap
     ensures gap { result ≡ spec.gap_after_comma kind blank }
 {
     match kind {
-        Kind::Array if blank => Gap::BlankLine,
+        Kind::Array | Kind::Numbers if blank => Gap::BlankLine,
         Kind::Array => Gap::Line,
+        Kind::Numbers => Gap::Fill,
         _ => Gap::Space,
     }
 }
@@ -53,7 +58,7 @@ fn edge(kind: Kind) -> Gap
     ensures gap { result ≡ spec.edge_gap kind }
 {
     match kind {
-        Kind::Array => Gap::Edge,
+        Kind::Array | Kind::Numbers => Gap::Edge,
         Kind::Table => Gap::Space,
         Kind::Header | Kind::Statement => Gap::Nothing,
     }
@@ -113,10 +118,10 @@ pub(crate) fn before_remark(kind: Kind, last: Last, others: bool, broken: bool, 
     match (kind, last) {
         _ if others => line_break(blank),
         (_, Last::Remark) => line_break(blank),
-        (Kind::Statement, _) => Gap::Space,
+        (Kind::Statement, _) => Gap::Beside,
         (_, Last::Start) if broken => Gap::Break,
         _ if broken => line_break(blank),
-        _ => Gap::Space,
+        _ => Gap::Beside,
     }
 }
 

@@ -16,6 +16,8 @@ pub(crate) enum Kind {
     Table,
     /// An array.
     Array,
+    /// An array of numbers alone.
+    Numbers,
 }
 
 /// What a document ends with.

@@ -6,9 +6,11 @@ ghost use Rattle.prettyless.specs.Layout.{Whole, layout};
 ghost use Rattle.toml_lexemes.specs.Lexemes.{toml_lexemes_of};
 ghost use Rattle.toml_grammar.specs.Nesting.{is_too_deep};
 ghost use Rattle.toml_formatter.specs.Errors.{IsFormatMemory, IsRefusalOf};
-ghost use Rattle.toml_formatter.specs.Formats.{HasTomlOptions, IsFormattedToml, IsLaidToml, IsRefusedToml, IsTomlLayout};
+ghost use Rattle.toml_formatter.specs.Formats.{HasTomlOptions, IsFormattedToml, IsLaidToml, IsLaidTomlDocument};
+ghost use Rattle.toml_formatter.specs.Formats.{IsRefusedToml, IsTomlLayout, ShowsToml};
 ghost use Rattle.toml_statements.specs.Sound.{AreSound};
 
+use crate::alignment::aligned;
 use crate::document::document;
 use crate::error::FormatError;
 use crate::style::Style;
@@ -73,8 +75,8 @@ fn laid<'a>(
     style: Style,
 ) -> Result<String, FormatError>
     requires { AreSound (toml_lexemes_of text.now) }
-    ensures ok { IfOk result (λ layout. IsTomlLayout text.now (string_bytes layout)) }
-    ensures laid { IfOk result (λ layout. IsLaidToml style text.now (string_bytes layout)) }
+    ensures ok { IfOk result (λ layout. ShowsToml text.now (string_bytes layout)) }
+    ensures laid { IfOk result (λ layout. IsLaidTomlDocument style text.now (string_bytes layout)) }
     ensures shallow { OnOk result (is_too_deep text.now ≡ false) }
     ensures err { IfErr result (IsRefusalOf text.now) }
 {
@@ -83,10 +85,10 @@ fn laid<'a>(
 }
 
 /// The same, with the document in an arena of its own.
-fn laid_out(alloc: Global, text: &str, style: Style) -> Result<String, FormatError>
+fn laid_apart(alloc: Global, text: &str, style: Style) -> Result<String, FormatError>
     requires { AreSound (toml_lexemes_of text.now) }
-    ensures ok { IfOk result (λ layout. IsTomlLayout text.now (string_bytes layout)) }
-    ensures laid { IfOk result (λ layout. IsLaidToml style text.now (string_bytes layout)) }
+    ensures ok { IfOk result (λ layout. ShowsToml text.now (string_bytes layout)) }
+    ensures laid { IfOk result (λ layout. IsLaidTomlDocument style text.now (string_bytes layout)) }
     ensures shallow { OnOk result (is_too_deep text.now ≡ false) }
     ensures err { IfErr result (IsRefusalOf text.now) }
 {
@@ -95,10 +97,26 @@ fn laid_out(alloc: Global, text: &str, style: Style) -> Result<String, FormatErr
     laid(&arena, alloc, text, style)
 }
 
+/// The same, with comments aligned where the style says so.
+fn laid_out(alloc: Global, text: &str, style: Style) -> Result<String, FormatError>
+    requires { AreSound (toml_lexemes_of text.now) }
+    ensures ok { IfOk result (λ layout. IsTomlLayout text.now (string_bytes layout)) }
+    ensures laid { IfOk result (λ layout. IsLaidToml style text.now (string_bytes layout)) }
+    ensures shallow { OnOk result (is_too_deep text.now ≡ false) }
+    ensures err { IfErr result (IsRefusalOf text.now) }
+{
+    let layout = laid_apart(alloc, text, style)?;
+    if style.align {
+        return Ok(aligned(alloc, layout.as_str())?);
+    }
+    Ok(layout)
+}
+
 /// The layout of a TOML text in this style. It is TOML too, and has the same statements: the same lexemes in the same
 /// order, remarks among them. Three things may differ: line ends in brackets, commas before closing brackets, and
-/// remarks before a comma, which stand after it. How it is laid out, its document says (`toml_document`). Its lines end as
-/// the first line of the text does that ends outside of strings. It ends with a line end, unless it is empty.
+/// remarks before a comma, which stand after it. How it is laid out, its document says (`toml_document`), and comments are
+/// aligned where the style says so (`with_aligned_comments`). Its lines end as the first line of the text does that ends
+/// outside of strings. It ends with a line end, unless it is empty.
 ///
 /// `NotToml` only where the text is no TOML, and `TooDeep` only where it is TOML and more than 128 brackets are in one
 /// another. `LayoutNotToml` only where the layout that was made is no TOML, which is judged before it is answered.

@@ -2,6 +2,7 @@
 #![tactic(auto)]
 
 mod ahead;
+mod alignment;
 mod document;
 mod error;
 mod gaps;
@@ -9,7 +10,9 @@ mod kind;
 mod layout;
 mod line;
 mod list;
+mod numbers;
 mod parts;
+mod standing;
 mod statement;
 mod style;
 mod trim;

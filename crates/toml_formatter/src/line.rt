@@ -15,7 +15,7 @@ ghost use Rattle.toml_formatter.specs.Lines.{begun, may_hold, IsValue, ShowsTake
 
 use crate::gaps::{before, before_comma, before_remark};
 use crate::kind::{Kind, Last, last_of};
-use crate::parts::{apart, remark_text, trailed};
+use crate::parts::{apart, broken_if, trailed, uncounted};
 use crate::trim::trimmed;
 use prettyless::text::BuildError;
 use prettyless::{Arena, RefDoc};
@@ -217,7 +217,7 @@ impl<'a> Line<'a> {
             → Stands (document.with_remark lv remark.now) line) }
     {
         let gap = before_remark(kind, self.last, self.is_remarked, self.broken, self.blank);
-        let remark = remark_text(arena, trimmed(remark))?;
+        let remark = uncounted(arena, trimmed(remark))?;
         if self.is_remarked {
             let remarks = apart(arena, self.remarks, gap, remark)?;
             return Ok(self.with_remarks(remarks));
@@ -265,9 +265,8 @@ impl<'a> Line<'a> {
     {
         match (kind, self.last) {
             (_, Last::Comma | Last::Remark) => self.comma,
-            (Kind::Array, Last::Close | Last::Equals | Last::Word | Last::String) => {
-                self.is_remarked
-            }
+            (Kind::Array | Kind::Numbers, Last::Close | Last::Equals | Last::Word | Last::String) =>
+                self.is_remarked,
             _ => false,
         }
     }
@@ -281,14 +280,14 @@ impl<'a> Line<'a> {
         matches!(
             (kind, self.last),
             (
-                Kind::Array,
+                Kind::Array | Kind::Numbers,
                 Last::Close | Last::Equals | Last::Word | Last::String
             )
         )
     }
 
     /// The same as it stands before a closing bracket: with its remarks in their place, and a comma in front of them or at the
-    /// end where an array is broken.
+    /// end where an array is broken. An array with a comma after its last item is.
     pub(crate) fn closed(self, arena: &'a Arena<'a>, kind: Kind) -> Result<Line<'a>, BuildError>
         requires { is_nested kind ≡ false → is_last_remark self.last ≡ false }
         ensures last { IfOk result (λ line. self.entry.is_remarked ≡ false → is_last_remark self.entry.last ≡ false
@@ -303,7 +302,7 @@ impl<'a> Line<'a> {
         };
         let line = line.settled(arena)?;
         if line.may_trail(kind) {
-            let doc = trailed(arena, line.doc)?;
+            let doc = broken_if(arena, trailed(arena, line.doc)?, self.comma)?;
             return Ok(Line { doc, ..line });
         }
         Ok(line)

@@ -17,6 +17,7 @@ use crate::error::FormatError;
 use crate::gaps::before_close;
 use crate::kind::{Kind, kind_of, opens};
 use crate::line::Line;
+use crate::numbers::kind_before;
 use crate::parts::{apart, lexeme};
 use crate::style::Style;
 use prettyless::{Arena, RefDoc};
@@ -35,7 +36,7 @@ fn indent_in(kind: Kind, style: Style) -> u32
     ensures { result ≡ indent_in style kind }
 {
     match kind {
-        Kind::Array => style.indent,
+        Kind::Array | Kind::Numbers => style.indent,
         _ => 0,
     }
 }
@@ -112,7 +113,7 @@ pub(crate) fn value<'a>(
     if depth == 0 {
         return Err(FormatError::TooDeep);
     }
-    let kind = kind_of(around, is_first, first);
+    let kind = kind_before(kind_of(around, is_first, first), lexemes);
     let line = inside(setting, lexemes, kind, depth - 1)?;
     match lexemes.next() {
         Some(close) => closed(setting, kind, first, line, close),

@@ -2,13 +2,13 @@
 ghost use Rattle.std.specs.Prelude.{◌≡◌, [], ◌∷◌, IfOk};
 ghost use Rattle.std.specs.List.{list_any};
 ghost use Rattle.prettyless.specs.Counted as counted;
-ghost use Rattle.prettyless.specs.Built.{append};
+ghost use Rattle.prettyless.specs.Built.{append, softline};
 ghost use Rattle.prettyless.specs.Lines.{line_};
 ghost use Rattle.prettyless.specs.Tree.{Nil, BreakOrFlat, TextWithLen};
-ghost use Rattle.prettyless_model.specs.Shows.{Mark, loose, shows};
+ghost use Rattle.prettyless_model.specs.Shows.{Mark, apart, loose, shows, spaced};
 ghost use Rattle.prettyless_shapes.specs.Items.{ShowsBoth, ShowsMore, ShowsSame};
 ghost use Rattle.prettyless_shapes.specs.Shown.{text_items};
-ghost use Rattle.toml_lexemes.specs.Bytes.{comma};
+ghost use Rattle.toml_lexemes.specs.Bytes.{blank_space, comma};
 ghost use Rattle.toml_formatter.specs.Documents.{broken_if, is_line_feed_byte, lexeme_tree, separated};
 ghost use Rattle.toml_formatter.specs.Gaps.{gap_items};
 
@@ -29,7 +29,7 @@ pub(crate) fn lexeme<'a, D: DocPlace<'a>>(
 }
 
 /// A document, which keeps the groups around it from being flat, if it does.
-fn broken_if<'a, D: DocPlace<'a>>(
+pub(crate) fn broken_if<'a, D: DocPlace<'a>>(
     place: &'a D,
     doc: D::Doc,
     breaks: bool,
@@ -43,8 +43,8 @@ fn broken_if<'a, D: DocPlace<'a>>(
     Ok(doc)
 }
 
-/// A remark, which counts no columns: no array in front of it is broken for its sake.
-pub(crate) fn remark_text<'a, D: DocPlace<'a>>(
+/// A text that counts no columns: no array in front of it is broken for its sake.
+pub(crate) fn uncounted<'a, D: DocPlace<'a>>(
     place: &'a D,
     spelling: &'a str,
 ) -> Result<D::Doc, BuildError>
@@ -55,7 +55,7 @@ pub(crate) fn remark_text<'a, D: DocPlace<'a>>(
 }
 
 /// Whether a line ends in the text.
-fn has_lines(text: &str) -> bool
+pub(crate) fn has_lines(text: &str) -> bool
     ensures { result ≡ list_any is_line_feed_byte text.now }
 {
     text.as_bytes().iter().any(|byte| *byte == b'\n')
@@ -69,6 +69,24 @@ fn edged<'a, D: DocPlace<'a>>(place: &'a D, doc: D::Doc) -> Result<D::Doc, Build
     DocBuilder(place, BuildDoc::DocPtr(doc))
         .join(place.line_()?)?
         .into_doc()
+}
+
+/// A document, and a line end after it only where the line has no room for what comes next, and else a space.
+fn softened<'a, D: DocPlace<'a>>(place: &'a D, doc: D::Doc) -> Result<D::Doc, BuildError>
+    ensures ok { IfOk result (λ p. D.Doc.tree p ≡ append (D.Doc.tree doc) softline) }
+    ensures items { IfOk result (λ p. ShowsMore (D.Doc.tree doc) (apart ∷ []) (D.Doc.tree p)) }
+{
+    DocBuilder(place, BuildDoc::DocPtr(doc))
+        .join(place.softline()?)?
+        .into_doc()
+}
+
+/// A document, and a space after it that counts no columns.
+fn blanked<'a, D: DocPlace<'a>>(place: &'a D, doc: D::Doc) -> Result<D::Doc, BuildError>
+    ensures ok { IfOk result (λ p. D.Doc.tree p ≡ append (D.Doc.tree doc) (TextWithLen 0 (blank_space ∷ []))) }
+    ensures items { IfOk result (λ p. ShowsMore (D.Doc.tree doc) (spaced ∷ []) (D.Doc.tree p)) }
+{
+    joined(place, doc, uncounted(place, " ")?)
 }
 
 /// A document, and a comma after it where lines are broken.
@@ -94,8 +112,10 @@ pub(crate) fn apart<'a, D: DocPlace<'a>>(
     match gap {
         Gap::Nothing => joined(place, front, next),
         Gap::Space => spaced(place, front, next),
+        Gap::Beside => joined(place, blanked(place, front)?, next),
         Gap::Edge => joined(place, edged(place, front)?, next),
         Gap::Line => lined(place, front, next),
+        Gap::Fill => joined(place, softened(place, front)?, next),
         Gap::BlankLine => lined(place, edged(place, front)?, next),
         Gap::Break => stacked(place, front, next),
         Gap::BlankBreak => stacked(place, ended(place, front)?, next),

@@ -1,4 +1,4 @@
-ghost use Rattle.std.specs.Prelude.{◌≡◌};
+ghost use Rattle.std.specs.Prelude.{◌≡◌, true};
 
 /// How a text is laid out.
 #[derive(Clone, Copy, Debug, Drop, PartialEq, Eq)]
@@ -7,16 +7,19 @@ pub struct Style {
     pub width: usize,
     /// By how many columns the members of a broken array are indented relative to its brackets.
     pub indent: u32,
+    /// Whether comments at the ends of lines that follow each other are aligned.
+    pub align: bool,
 }
 
 impl Default for Style {
-    ghost is_default = { λ style. (style.width ≡ 80) × (style.indent ≡ 2) };
+    ghost is_default = { λ style. (style.width ≡ 80) × (style.indent ≡ 2) × (style.align ≡ true) };
 
-    /// 80 columns, and indents of 2.
+    /// 80 columns, indents of 2, and aligned comments.
     fn default() -> Style {
         Style {
             width: 80,
             indent: 2,
+            align: true,
         }
     }
 }

@@ -4,7 +4,7 @@ use Rattle.std.proofs.Common.{append-nil, append_assoc, length-append}
 use Rattle.toml_lexemes.specs.SpacedLexemes.{SpacedToml, toml_spaced_lexemes, toml_put_together}
 use Rattle.toml_lexemes.proofs.Joined.{joined_spaced}
 
-joined-append : (ps qs : List SpacedToml) → toml_put_together (ps ++ qs) ≡ toml_put_together ps ++ toml_put_together qs
+pub joined-append : (ps qs : List SpacedToml) → toml_put_together (ps ++ qs) ≡ toml_put_together ps ++ toml_put_together qs
 joined-append [] qs = refl
 joined-append (p ∷ ps) qs =
     ap (λ l. p.gap ++ (p.lexeme ++ l)) (joined-append ps qs)

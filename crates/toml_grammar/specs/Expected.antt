@@ -3,7 +3,8 @@ use Rattle.std.specs.Prelude.{ℕ, List, codes}
 use Rattle.toml_grammar.specs.declared.expected.Expected.{Expected}
 use Rattle.toml_grammar.specs.declared.expected.Expected.TheVariants.{Line, Key, DotOrEquals, DotOrBracket, DotOrBrackets, Bracket, Value}
 use Rattle.toml_grammar.specs.declared.expected.Expected.TheVariants.{ValueOrBracket, KeyOrBrace, CommaOrBracket, CommaOrBrace, LineEnd}
-use Rattle.toml_grammar.specs.declared.expected.Expected.TheVariants.{LineFeed, String, KeyString, Remark}
+use Rattle.toml_grammar.specs.declared.expected.Expected.TheVariants.{LineFeed, String, KeyString, Remark, OneLine, Quote, Quotes}
+use Rattle.toml_grammar.specs.declared.expected.Expected.TheVariants.{Escape, Digit, Scalar, Plain}
 
 -- the name
 abbrev pub expected_name : Expected → List ℕ
@@ -22,4 +23,11 @@ expected_name LineEnd = codes "the end of the line"
 expected_name LineFeed = codes "a line feed after the carriage return"
 expected_name String = codes "a closed string with valid escapes and no control characters"
 expected_name KeyString = codes "a closed string of one line with valid escapes and no control characters"
-expected_name Remark = codes "a remark without control characters"
+expected_name Remark = codes "a comment without control characters"
+expected_name OneLine = codes "a string of one line"
+expected_name Quote = codes "a closing quote"
+expected_name Quotes = codes "three closing quotes"
+expected_name Escape = codes "a valid escape"
+expected_name Digit = codes "a hex digit"
+expected_name Scalar = codes "a digit that makes a Unicode character"
+expected_name Plain = codes "no control character"

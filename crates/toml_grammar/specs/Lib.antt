@@ -4,5 +4,7 @@ pub mod Expected
 pub mod Readings
 pub mod Faults
 pub mod Nesting
+pub mod Opened
+pub mod Stops
 pub mod Refusals
 pub mod Laws

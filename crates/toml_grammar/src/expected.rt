@@ -37,6 +37,20 @@ pub enum Expected {
     KeyString,
     /// A remark that TOML allows.
     Remark,
+    /// A string of one line, as a part of a key.
+    OneLine,
+    /// The quote that closes a string of one line.
+    Quote,
+    /// The quotes that close a string of several lines.
+    Quotes,
+    /// What makes an escape with a backslash.
+    Escape,
+    /// A digit of an escape in hex digits.
+    Digit,
+    /// An escape in hex digits of a Unicode scalar value.
+    Scalar,
+    /// No control character but the tab.
+    Plain,
 }
 
 impl Expected {
@@ -61,7 +75,14 @@ impl Expected {
             Expected::String => "a closed string with valid escapes and no control characters",
             Expected::KeyString =>
                 "a closed string of one line with valid escapes and no control characters",
-            Expected::Remark => "a remark without control characters",
+            Expected::Remark => "a comment without control characters",
+            Expected::OneLine => "a string of one line",
+            Expected::Quote => "a closing quote",
+            Expected::Quotes => "three closing quotes",
+            Expected::Escape => "a valid escape",
+            Expected::Digit => "a hex digit",
+            Expected::Scalar => "a digit that makes a Unicode character",
+            Expected::Plain => "no control character",
         }
     }
 }

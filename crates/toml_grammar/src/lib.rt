@@ -8,12 +8,15 @@ mod gap;
 mod laws;
 mod nesting;
 mod next;
+mod opened;
 mod reading;
 mod refusal;
+mod stop;
 mod turn;
 
 pub use expected::Expected;
 pub use fault::{Fault, fault_of};
 pub use laws::law_closed_strings;
 pub use nesting::MAX_DEPTH;
-pub use refusal::{Found, Refusal, refusal_of};
+pub use refusal::{Refusal, refusal_of};
+pub use stop::Found;

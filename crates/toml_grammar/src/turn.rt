@@ -90,16 +90,26 @@ fn open_array(next: Next, innermost: Option<Bracket>, gap: &str) -> LexemeTurn
     }
 }
 
+/// What `]` does after a value.
+fn array_end(next: Next, innermost: Option<Bracket>) -> LexemeTurn
+    ensures { result ≡ spec.array_end next innermost }
+{
+    match innermost {
+        Some(Bracket::Array) => LexemeTurn::Closes,
+        _ => LexemeTurn::Stops(expected(next, innermost)),
+    }
+}
+
 /// What `]` does.
 fn close_array(next: Next, innermost: Option<Bracket>, gap: &str) -> LexemeTurn
     ensures { result ≡ spec.close_array_turn next innermost gap.now }
 {
-    match (next, innermost) {
-        (Next::Key(Owner::Table, false), _) => LexemeTurn::GoesOn(Next::After),
-        (Next::Key(Owner::Tables, false), _) => LexemeTurn::GoesOn(Next::Closing),
-        (Next::Closing, _) => where_so(gap.is_empty(), Next::After, Expected::Bracket),
-        (Next::Member, _) | (Next::After | Next::AfterDate, Some(Bracket::Array)) =>
-            LexemeTurn::Closes,
+    match next {
+        Next::Key(Owner::Table, false) => LexemeTurn::GoesOn(Next::After),
+        Next::Key(Owner::Tables, false) => LexemeTurn::GoesOn(Next::Closing),
+        Next::Closing => where_so(gap.is_empty(), Next::After, Expected::Bracket),
+        Next::Member => LexemeTurn::Closes,
+        Next::After | Next::AfterDate => array_end(next, innermost),
         _ => LexemeTurn::Stops(expected(next, innermost)),
     }
 }

@@ -33,7 +33,7 @@ drop_fronts : (g s rest : List ℕ) → drop (length g + length s) (g ++ (s ++ r
 drop_fronts g s rest = drop-append-add g (s ++ rest) (length s) ∙ drop-append_seam s rest
 
 -- the first lexeme with its gap, and the others
-first_spaced : (g s rest : List ℕ) (ss : List (List ℕ)) → IsTomlGap g → cut_toml between s ≡ s ∷ []
+pub first_spaced : (g s rest : List ℕ) (ss : List (List ℕ)) → IsTomlGap g → cut_toml between s ≡ s ∷ []
     → toml_spaced_as (g ++ (s ++ rest)) (s ∷ ss) ≡ after_toml_gap g s ∷ toml_spaced_as rest ss
 first_spaced g s rest ss gap alone =
     ap (λ b. after_toml_gap b s ∷ toml_spaced_as (drop (length b + length s) (g ++ (s ++ rest))) ss)

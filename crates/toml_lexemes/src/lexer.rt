@@ -32,6 +32,17 @@ impl<'a> Lexer<'a> {
     {
         Lexer { text, place: 0 }
     }
+
+    /// Another lexer, which returns the same lexemes.
+    #[inline]
+    pub fn again(&self) -> Lexer<'a>
+        ensures { result ≡ self.now }
+    {
+        Lexer {
+            text: self.text,
+            place: self.place,
+        }
+    }
 }
 
 impl<'a> Iterator for Lexer<'a> {

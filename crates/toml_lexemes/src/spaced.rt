@@ -62,6 +62,18 @@ impl<'a> SpacedLexer<'a> {
             ended: false,
         }
     }
+
+    /// Another lexer, which returns the same lexemes.
+    #[inline]
+    pub fn again(&self) -> SpacedLexer<'a>
+        ensures { result ≡ self.now }
+    {
+        SpacedLexer {
+            text: self.text,
+            place: self.place,
+            ended: self.ended,
+        }
+    }
 }
 
 impl<'a> Iterator for SpacedLexer<'a> {

@@ -1,3 +1,4 @@
 mod Digits
 pub mod Closed
 pub mod Remarks
+pub mod Stops

@@ -6,3 +6,4 @@ pub mod Values
 pub mod Strings
 pub mod Remarks
 pub mod Laws
+pub mod Stops

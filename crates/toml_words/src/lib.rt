@@ -8,6 +8,7 @@ mod key;
 mod laws;
 mod number;
 mod remark;
+mod stop;
 mod string;
 mod value;
 
@@ -15,5 +16,6 @@ pub use date::{is_date, is_time};
 pub use key::key_word;
 pub use laws::law_closed;
 pub use remark::is_remark;
+pub use stop::{StringDue, StringStop, remark_stop, string_stop};
 pub use string::{is_key_string, is_string};
 pub use value::is_value;

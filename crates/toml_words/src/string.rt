@@ -211,7 +211,7 @@ fn opened_place(byte: u8) -> StringPlace
 
 /// The place after one byte more.
 #[inline]
-fn string_next(place: StringPlace, byte: u8) -> StringPlace
+pub(crate) fn string_next(place: StringPlace, byte: u8) -> StringPlace
     ensures { result ≡ spec.string_next place byte }
 {
     match place {

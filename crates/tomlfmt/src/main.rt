@@ -9,11 +9,12 @@ ghost use Rattle.std.specs.Prelude.{◌≡◌, IfErr, IfOk, OnOk};
 ghost use Rattle.std.specs.Io.KnownBytes.{Appends};
 ghost use Rattle.formatter_files.specs.Layouts.{IsOfWriter};
 
+use editor_config::Settings;
 use formatter_files::arguments::words;
 use formatter_files::ending::Ending;
 use formatter_files::files::{ending_after, ending_of, lay_out_all};
 use formatter_files::formatter::{Formatter, LayoutError, Verdict};
-use formatter_files::message::{say_expected, say_word};
+use formatter_files::message::{say_expected, say_opened, say_word};
 use std::fs::Files;
 use std::io;
 use std::io::{ErrorKind, Write};
@@ -25,23 +26,49 @@ use toml_grammar::{Found, refusal_of};
 use toml_lexemes::Lexeme;
 use tomlfmt_request::request::requested;
 
+// Whether a string is one of several lines.
+fn has_lines(text: &str) -> bool {
+    text.starts_with("\"\"\"") || text.starts_with("'''")
+}
+
+// Says which byte stands there, after a backslash or nothing, if it is a character. It leaves the line open.
+fn say_letter<R: Eprint>(rt: &R, before: &str, byte: u8) -> io::Result<()> {
+    let letter = char::from(byte);
+    if byte.is_ascii_graphic() {
+        eprint!(rt; ", found `{before}{letter}`")
+    } else if byte.is_ascii() {
+        eprint!(rt; ", found {letter:?}")
+    } else {
+        Ok(())
+    }
+}
+
 // Says what stands there. It leaves the line open.
 fn say_found<R: Eprint>(rt: &R, found: Found<'_>) -> io::Result<()> {
     match found {
         Found::Byte => Ok(()),
         Found::End => eprint!(rt; ", found the end of the text"),
         Found::Lexeme(Lexeme::LineEnd) => eprint!(rt; ", found the end of the line"),
+        Found::Blank => eprint!(rt; ", found a blank before `]`"),
+        Found::Letter(byte) => say_letter(rt, "", byte),
+        Found::Escape(byte) => say_letter(rt, "\\", byte),
+        Found::Lexeme(Lexeme::String(text)) if has_lines(text) => {
+            eprint!(rt; ", found a string of several lines")
+        }
         Found::Lexeme(Lexeme::String(_)) => eprint!(rt; ", found a string"),
-        Found::Lexeme(Lexeme::Remark(_)) => eprint!(rt; ", found a remark"),
+        Found::Lexeme(Lexeme::Remark(_)) => eprint!(rt; ", found a comment"),
         Found::Lexeme(lexeme) => say_word(rt, lexeme.text()),
     }
 }
 
-// Says why and where the bytes are refused.
+// Says why and where the bytes are refused, and where the string or the bracket was opened that is missed there.
 fn refuse<R: AllocGlobal + Eprint>(rt: &R, name: &str, bytes: &[u8]) -> io::Result<()> {
     let refusal = refusal_of(rt.alloc(), bytes)?;
     say_expected(rt, name, refusal.place, refusal.expected)?;
     say_found(rt, refusal.found)?;
+    if let Some(place) = refusal.opened {
+        say_opened(rt, place)?;
+    }
     eprintln!(rt)
 }
 
@@ -78,6 +105,15 @@ impl Formatter for Toml {
 
     fn ending(&self) -> &'static str {
         ".toml"
+    }
+
+    fn with_settings(&self, settings: Settings) -> Toml {
+        let Toml(style) = self;
+        Toml(Style {
+            width: settings.width().unwrap_or(style.width),
+            indent: settings.indent().unwrap_or(style.indent),
+            ..*style
+        })
     }
 
     fn write_layout<R: AllocGlobal + Eprint, W: Write>(

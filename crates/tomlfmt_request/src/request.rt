@@ -6,7 +6,9 @@ ghost use Rattle.tomlfmt_request.specs.Words.{AsksForToml, tomlfmt_faults, tomlf
 
 use clap::{ArgMatches, Command, Error};
 use formatter_files::files::Task;
-use formatter_files::words::{indent, program, task, width, with_files, with_numbers};
+use formatter_files::words::{
+    flag, has_flag, indent, program, task, width, with_files, with_numbers,
+};
 use std::alloc::{AllocError, Global};
 use std::convert::AsStr;
 use toml_formatter::Style;
@@ -26,8 +28,9 @@ fn command<'w>(alloc: Global) -> Result<Command<'w>, AllocError>
 {
     let about = "Lays TOML texts out, and changes no key, value or remark";
     let members = "How far in the members of a broken array are [default: 2]";
-    let command = program(alloc, "tomlfmt", "0.4.0", about);
-    with_files(alloc, with_numbers(alloc, command, members)?)
+    let command = with_numbers(alloc, program(alloc, "tomlfmt", "0.4.0", about), members)?;
+    let no_align = flag(alloc, "no-align", "Align no comments at the ends of lines");
+    with_files(alloc, command.arg(no_align)?)
 }
 
 /// What is asked for by what was read in the words.
@@ -40,6 +43,7 @@ fn asked<'w>(alloc: Global, matches: &ArgMatches<'w>) -> Result<Request<'w>, All
         style: Style {
             width: width(matches),
             indent: indent(matches),
+            align: !has_flag(matches, "no-align"),
         },
         task: task(alloc, matches)?,
     })

@@ -308,6 +308,56 @@ impl Doc {
         docs.fold(first, |before, doc| before.append(separator.clone()).append(doc))
     }
 
+    /// The documents, each but the last with a mark after it, such as a comma: for [`bracketed`](Doc::bracketed).
+    ///
+    /// ```
+    /// use yezhgulo::Doc;
+    ///
+    /// let items = Doc::intersperse(Doc::punctuated(["1", "2"], ","), Doc::line());
+    /// assert_eq!(items.pretty(80)?, "1,\n2");
+    /// # Ok::<(), yezhgulo::Error>(())
+    /// ```
+    #[must_use]
+    pub fn punctuated<I>(docs: I, mark: impl Into<Doc>) -> Vec<Doc>
+    where
+        I: IntoIterator,
+        I::Item: Into<Doc>,
+    {
+        let mark = mark.into();
+        let mut docs: Vec<Doc> = docs.into_iter().map(Into::into).collect();
+        if let Some((_, all_but_last)) = docs.split_last_mut() {
+            for doc in all_but_last {
+                *doc += &mark;
+            }
+        }
+        docs
+    }
+
+    /// The documents between two others: a group, flat with one space between two of them, or each on a line of its own,
+    /// further in by so many columns. Where there are none, the two stand side by side.
+    ///
+    /// ```
+    /// use yezhgulo::Doc;
+    ///
+    /// let list = Doc::bracketed("[", Doc::punctuated(["1", "22"], ","), "]", 2);
+    /// assert_eq!(list.pretty(7)?, "[1, 22]");
+    /// assert_eq!(list.pretty(6)?, "[\n  1,\n  22\n]");
+    /// assert_eq!(Doc::bracketed("[", [""; 0], "]", 2).pretty(0)?, "[]");
+    /// # Ok::<(), yezhgulo::Error>(())
+    /// ```
+    pub fn bracketed<I>(before: impl Into<Doc>, docs: I, after: impl Into<Doc>, indent: isize) -> Doc
+    where
+        I: IntoIterator,
+        I::Item: Into<Doc>,
+    {
+        let mut docs = docs.into_iter().peekable();
+        if docs.peek().is_none() {
+            return before.into().append(after);
+        }
+        let inside = (Doc::line_() + Doc::intersperse(docs, Doc::line())).nest(indent) + Doc::line_();
+        inside.enclose(before, after).group()
+    }
+
     /// The text with a [`softline`](Doc::softline) in place of each whitespace character.
     ///
     /// ```

@@ -4,6 +4,8 @@ use super::Doc;
 use std::borrow::Cow;
 use std::mem;
 use std::ops::{Add, AddAssign};
+use std::rc::Rc;
+use std::sync::Arc;
 
 /// The text as [`Doc::text`] makes it.
 impl From<&str> for Doc {
@@ -30,6 +32,35 @@ impl From<&String> for Doc {
 impl From<Cow<'_, str>> for Doc {
     fn from(text: Cow<'_, str>) -> Doc {
         Doc::text(text)
+    }
+}
+
+/// A clone, which shares the document's memory.
+///
+/// ```
+/// use yezhgulo::Doc;
+///
+/// let word = Doc::text("word");
+/// assert_eq!((Doc::text("a ") + &word + ", a " + &word).pretty(80)?, "a word, a word");
+/// # Ok::<(), yezhgulo::Error>(())
+/// ```
+impl From<&Doc> for Doc {
+    fn from(doc: &Doc) -> Doc {
+        doc.clone()
+    }
+}
+
+/// The document, which shares its memory with what else refers to it.
+impl From<Rc<Doc>> for Doc {
+    fn from(doc: Rc<Doc>) -> Doc {
+        Rc::try_unwrap(doc).unwrap_or_else(|shared| Doc::clone(&shared))
+    }
+}
+
+/// The document, which shares its memory with what else refers to it.
+impl From<Arc<Doc>> for Doc {
+    fn from(doc: Arc<Doc>) -> Doc {
+        Arc::try_unwrap(doc).unwrap_or_else(|shared| Doc::clone(&shared))
     }
 }
 

@@ -1,4 +1,4 @@
-use Rattle.std.proofs.Common.{ap, ◌∙◌, ◌≡◌, refl, codes, Option, Some, None, List, [], map, option_map, unwrap_or, Bor}
+use Rattle.std.proofs.Common.{ap, ◌∙◌, ◌≡◌, refl, codes, Option, Some, None, List, [], map, option_map, unwrap_or, Bor, not}
 use Rattle.clap.proofs.WalkLemmas.{raw_values-rows}
 use Rattle.clap.specs.Words.{Text, found_of}
 use Rattle.formatter_files.proofs.words.task.Goals as goal
@@ -19,6 +19,9 @@ returns c =
       check = c.has_flag.ensures;
       diff = c.has_flag-2.ensures;
       write = c.has_flag-3.ensures;
+      editorconfig = ap not c.has_flag-4.ensures;
+      has_width = c.is_given.ensures;
+      has_indent = c.is_given-2.ensures;
       files = ap (λ (items : List (Bor Text)). map (λ file. file.now) items) c.in_ok-from_slice.ensures.items
           ∙ (ap texts c.unwrap_or.ensures ∙ (listed c.get_strs.result _ refl
           ∙ ap (λ (given : Option (List Text)). unwrap_or given []) (c.get_strs.ensures ∙ raw_values-rows found (codes "FILE"))));

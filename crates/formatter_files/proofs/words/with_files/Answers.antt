@@ -16,5 +16,6 @@ returns c =
     let one = c.in_ok-arg.ensures.shape (c.lettered.ensures.local ∙ c.flag.ensures.local) ∙ ap (with_rule _) check in
     let two = c.in_ok-arg-2.ensures.shape (c.lettered-2.ensures.local ∙ c.flag-2.ensures.local) ∙ ap₂ with_rule one diff in
     let three = c.in_ok-arg-3.ensures.shape (c.lettered-3.ensures.local ∙ c.flag-3.ensures.local) ∙ ap₂ with_rule two write in
-    IfOk-weaker c.arg-4.result _ _ (λ (made : Command) (h : AddsArg c.in_ok-arg-3.field-0 c.files.result made).
-    h.shape c.files.ensures.local ∙ ap₂ with_rule three c.files.ensures.rule) c.arg-4.ensures
+    let four = c.in_ok-arg-4.ensures.shape c.flag-4.ensures.local ∙ ap₂ with_rule three c.flag-4.ensures.rule in
+    IfOk-weaker c.arg-5.result _ _ (λ (made : Command) (h : AddsArg c.in_ok-arg-4.field-0 c.files.result made).
+    h.shape c.files.ensures.local ∙ ap₂ with_rule four c.files.ensures.rule) c.arg-5.ensures

@@ -1,8 +1,8 @@
 use Rattle.std.proofs.Common.{subst, sym, rules}
 use Rattle.std.proofs.lemmas.Result.{IfOk-weaker, on_err_weaker, on_ok_weaker}
 use Rattle.json_formatter.specs.BlankLines.{layout_of}
-use Rattle.prettyless_area.specs.Overlay.{PutsAll, PutsToLimit}
-use Rattle.prettyless_area.proofs.Areas.{accepted, refused}
+use Rattle.prettyless_exports.specs.Overlay.{PutsAll, PutsToLimit}
+use Rattle.prettyless_exports.proofs.Areas.{accepted, refused}
 use Rattle.json_exports.proofs.layout.put_layout.Goals as goal
 
 pub returns-clause-ok : goal.returns-clause-ok

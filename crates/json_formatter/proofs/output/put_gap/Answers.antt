@@ -12,18 +12,18 @@ returns-in_err-put-in-Line-2-clause-beginning g c =
 
 pub returns-in_ok-put-in-Line-2-clause-ok : goal.returns-in_ok-put-in-Line-2-clause-ok
 returns-in_ok-put-in-Line-2-clause-ok g c =
-    on_ok_weaker c.put_spaces.result
-    (λ h. rw (c.in-Line-2.is) (hands_both c.args.held.now.bytes c.put-in-Line-2.new.held.bytes c.put_spaces.new.held.bytes (10 ∷ [])
+    on_ok_weaker c.put_blanks.result
+    (λ h. rw (c.in-Line-2.is) (hands_both c.args.held.now.bytes c.put-in-Line-2.new.held.bytes c.put_blanks.new.held.bytes (10 ∷ [])
     (spaces c.in-Line-2.indent)
     c.in_ok-put-in-Line-2.ensures.ok h))
-    c.put_spaces.ensures.ok
+    c.put_blanks.ensures.ok
 
 pub returns-in_ok-put-in-Line-2-clause-beginning : goal.returns-in_ok-put-in-Line-2-clause-beginning
 returns-in_ok-put-in-Line-2-clause-beginning g c =
-    on_err_weaker c.put_spaces.result
+    on_err_weaker c.put_blanks.result
     (λ h. rw (c.in-Line-2.is) (hands_stops c.args.held.now.bytes c.put-in-Line-2.new.held.bytes (10 ∷ []) (spaces c.in-Line-2.indent)
     c.in_ok-put-in-Line-2.ensures.ok h))
-    c.put_spaces.ensures.beginning
+    c.put_blanks.ensures.beginning
 
 pub returns-in_err-put-in-BlankLine-clause-beginning : goal.returns-in_err-put-in-BlankLine-clause-beginning
 returns-in_err-put-in-BlankLine-clause-beginning g c =
@@ -35,17 +35,17 @@ pub returns-in_ok-put-in-BlankLine-clause-ok : goal.returns-in_ok-put-in-BlankLi
 returns-in_ok-put-in-BlankLine-clause-ok g c =
     let held = c.args.held.now.bytes in
     let mid = c.put-in-BlankLine.new.held.bytes in
-    let left = c.put_spaces-in-BlankLine.new.held.bytes in
-    on_ok_weaker c.put_spaces-in-BlankLine.result
+    let left = c.put_blanks-in-BlankLine.new.held.bytes in
+    on_ok_weaker c.put_blanks-in-BlankLine.result
     (λ h. rw (c.in-BlankLine.is)
     (hands_both held mid left (10 ∷ 10 ∷ []) (spaces c.in-BlankLine.indent) c.in_ok-put-in-BlankLine.ensures.ok h))
-    c.put_spaces-in-BlankLine.ensures.ok
+    c.put_blanks-in-BlankLine.ensures.ok
 
 pub returns-in_ok-put-in-BlankLine-clause-beginning : goal.returns-in_ok-put-in-BlankLine-clause-beginning
 returns-in_ok-put-in-BlankLine-clause-beginning g c =
     let held = c.args.held.now.bytes in
     let mid = c.put-in-BlankLine.new.held.bytes in
-    on_err_weaker c.put_spaces-in-BlankLine.result
+    on_err_weaker c.put_blanks-in-BlankLine.result
     (λ h. rw (c.in-BlankLine.is)
     (hands_stops held mid (10 ∷ 10 ∷ []) (spaces c.in-BlankLine.indent) c.in_ok-put-in-BlankLine.ensures.ok h))
-    c.put_spaces-in-BlankLine.ensures.beginning
+    c.put_blanks-in-BlankLine.ensures.beginning

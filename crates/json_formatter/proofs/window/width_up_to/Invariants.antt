@@ -7,7 +7,7 @@ abbrev pub invariant-loop-lexeme : goal.invariant-loop-lexeme
 invariant-loop-lexeme l = record {
   room : l.room ≤ l.most;
   inner : l.inner + l.room ≤ l.most;
-  passed : IsUnclosed l.initial.lexemes 0 (l.most - l.room) (l.inner + 1) l.lexemes;
+  passed : IsUnclosed l.compact l.initial.lexemes 0 (l.most - l.room) (l.inner + 1) l.lexemes;
 }
 
 abbrev pub decreases-loop-lexeme : goal.decreases-loop-lexeme

@@ -4,7 +4,11 @@ use Rattle.json_validity.proofs.Open.{closes, goes_on, no_value, one_list, opens
 use Rattle.json_validity.proofs.text.pass_list.Goals as goal
 
 pub loop-reader-init : goal.loop-reader-init
-loop-reader-init c = (99999, omega arith, rw c.new-outer.ensures.items (one_list 99999 c.args.outermost c.args.reader.now))
+loop-reader-init c = (
+  c.args.most - 1,
+  rw c.new-outer.ensures.items (omega arith),
+  rw c.new-outer.ensures.items (one_list (c.args.most - 1) c.args.outermost c.args.reader.now),
+)
 
 pub loop-reader-preserved-in-Leaf : goal.loop-reader-preserved-in-Leaf
 loop-reader-preserved-in-Leaf c =
@@ -14,8 +18,8 @@ loop-reader-preserved-in-Leaf c =
     c.in-Member.ensures.next c.in-Leaf.ensures.begins in
     (i.0, i.1, i.2 ∙ passed)
 
-pub returns-then-len-ge-MAX_DEPTH : goal.returns-then-len-ge-MAX_DEPTH
-returns-then-len-ge-MAX_DEPTH c =
+pub returns-then-len-most : goal.returns-then-len-most
+returns-then-len-most c =
     let i = c.loop-reader.invariant in
     i.2 ∙ too_deep i.0 c.loop-reader.innermost _ c.loop-reader.reader c.next_in.new.reader c.begin.new.reader c.in-List.bracket
     (omega (arith, i.1)) c.in-Member.ensures.next c.in-List.ensures.begins

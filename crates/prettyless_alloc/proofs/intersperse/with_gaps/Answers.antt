@@ -1,10 +1,11 @@
-use Rattle.std.proofs.Common.{rules, sym, ◌∙◌, subst, inl, inr}
+use Rattle.std.proofs.Common.{rules, refl, sym, ◌∙◌, subst, inl, inr}
 use Rattle.std.proofs.lemmas.Result.{IfOk-weaker, IfErr-weaker}
 use Rattle.std.specs.List.{FoldsTo}
 use Rattle.prettyless_doc.specs.DocTree.{built}
 use Rattle.prettyless_doc.specs.Tree.{Tree}
+use Rattle.prettyless_build.specs.Built.{IsNotNil}
 use Rattle.prettyless_build.specs.Iterated.{appends_after}
-use Rattle.prettyless_alloc.proofs.Walks.{nil_from, between_nothing, nothing_between}
+use Rattle.prettyless_alloc.proofs.Walks.{nil_from, between_nothing, nothing_between, some_from}
 use Rattle.prettyless_alloc.proofs.intersperse.with_gaps.Goals as goal
 
 pub returns-in_err-separator-clause-err : goal.returns-in_err-separator-clause-err
@@ -36,6 +37,18 @@ returns-then-is_nil-clause-err g c =
       | inr n ↦ inr (inr n)
     ])
     c.append_all.ensures.err
+
+pub append_between-requires : goal.append_between-requires
+append_between-requires g c = λ k. (
+  (refl, tt),
+  (
+    search rules,
+    (
+      search rules,
+      subst IsNotNil (c.doc.ensures ∙ sym c.in_ok-gap.ensures.ok) (some_from _ (sym c.is_nil.ensures ∙ c.if-is_nil.false)),
+    ),
+  ),
+)
 
 pub returns-clause-ok : goal.returns-clause-ok
 returns-clause-ok g c =

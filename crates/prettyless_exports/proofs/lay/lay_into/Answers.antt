@@ -1,5 +1,5 @@
 use Rattle.std.proofs.Common.{◌≡◌, subst, sym, rules}
-use Rattle.prettyless_area.specs.declared.area.Full.TheVariants.{Document}
+use Rattle.prettyless_exports.specs.declared.area.Full.TheVariants.{Document}
 use Rattle.prettyless_doc.specs.DocTree.{tree_of}
 use Rattle.prettyless_exports.specs.Laid.{LaysInto}
 use Rattle.prettyless_exports.proofs.Lays.{lays_into}

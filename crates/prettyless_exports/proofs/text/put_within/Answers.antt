@@ -1,7 +1,7 @@
 use Rattle.std.proofs.Common.{subst, sym, rules}
 use Rattle.std.proofs.lemmas.Result.{on_err_weaker, on_ok_weaker}
-use Rattle.prettyless_area.specs.Overlay.{PutsAll, PutsToLimit}
-use Rattle.prettyless_area.proofs.Areas.{accepted, refused}
+use Rattle.prettyless_exports.specs.Overlay.{PutsAll, PutsToLimit}
+use Rattle.prettyless_exports.proofs.Areas.{accepted, refused}
 use Rattle.prettyless_exports.proofs.text.put_within.Goals as goal
 
 pub returns-clause-ok : goal.returns-clause-ok

@@ -7,7 +7,7 @@ use Rattle.prettyless_printer.proofs.Shifts.{came_alone, came_in_choice, choice_
 use Rattle.prettyless_printer.proofs.Shifts.{runs_then, some_open}
 use Rattle.prettyless_printer.specs.Spending.{left}
 use Rattle.prettyless_printer.proofs.OpenSpending.{spends_error_as}
-use Rattle.prettyless_printer.proofs.RunSpending.{came_options, came_plain, seconds_none, spends_on_as}
+use Rattle.prettyless_printer.proofs.RunSpending.{came_plain, seconds_none, spends_then_as}
 use Rattle.prettyless_printer.proofs.run.resume.Goals as goal
 
 -- no trial is open
@@ -122,7 +122,7 @@ returns-in-Finished-clause-spends g c = λ a h plain.
     let came = came_in_choice a here (all_held f us) (buffer_seen c.args.buffer.now) some h in
     let settled = (rw c.in-Finished.is at c.in_ok-resume_choice.ensures.settles) came.indent came.first came.second came.at came.choice in
     let continues = choice_continues came.indent came.first came.second came.continues came.waiting settled.1 in
-    spends_on_as _ c.run_to_end-in-Finished.result (came_options came settled.1)
+    spends_then_as _ c.run_to_end-in-Finished.result
     (seconds_none (standing f c.resume_choice.new.printer) _ c.resume_choice.new.visits settled.0
     (c.in_ok-resume_choice.ensures.spends came.indent came.first came.second came.at came.choice (came_plain came plain)))
     (c.run_to_end-in-Finished.ensures.spends (continues.at_most plain).0)

@@ -18,7 +18,7 @@ invariant-work g l =
       path : Path (run_of start) now;
       none : l.trials.open.items ≡ [];
       spends : Plain (standing f l.fn.printer) →
-          Spends (rule_of g.N.Walk.HAS_SUMMARIES l.fn.printer.options l.limit) (left (standing f l.fn.printer) [] l.fn.visits)
+          Spends (rule_of g.N.Walk.HAS_SUMMARIES l.limit) (left (standing f l.fn.printer) [] l.fn.visits)
           (left (standing f l.printer) [] l.visits);
       summed : IsSummed g.N.Walk.HAS_SUMMARIES f l.printer.commands;
     }

@@ -8,9 +8,9 @@ use Rattle.prettyless_printer.proofs.Standings.{pending_stands}
 use Rattle.prettyless_printer.proofs.Shifts.{continues_same, continues_then, continues_to_end, none_open, stops_then, round_continues}
 use Rattle.prettyless_printer.proofs.Shifts.{round_work_falls, round_stopped, work_ends, work_stopped}
 use Rattle.prettyless_printer.specs.Spending.{left}
-use Rattle.prettyless_printer.proofs.Spending.{spends_same}
+use Rattle.prettyless_printer.proofs.Spending.{spends_same, spends_then}
 use Rattle.prettyless_printer.proofs.OpenSpending.{spends_error_as}
-use Rattle.prettyless_printer.proofs.RunSpending.{nothing_pending, spends_on}
+use Rattle.prettyless_printer.proofs.RunSpending.{nothing_pending}
 use Rattle.prettyless_printer.proofs.run.run_to_end.Goals as goal
 
 pub rounds-init : goal.rounds-init
@@ -96,15 +96,15 @@ pub returns-in_err-run_commands-clause-spends : goal.returns-in_err-run_commands
 returns-in_err-run_commands-clause-spends g c = λ plain.
     spends_error_as (left (standing g.N.Walk.tree c.run_commands.new.printer) _ c.run_commands.new.visits) c.from_residual.result
     c.from_residual.ensures.0
-    (spends_on c.rounds.invariant.continues.options (c.rounds.invariant.spends plain)
+    (spends_then (c.rounds.invariant.spends plain)
     (c.in_err-run_commands.ensures.spends (c.rounds.invariant.continues.at_most plain).0))
 
 pub returns-in-Shift-clause-spends : goal.returns-in-Shift-clause-spends
-returns-in-Shift-clause-spends g c = λ plain. spends_on c.rounds.invariant.continues.options (c.rounds.invariant.spends plain)
+returns-in-Shift-clause-spends g c = λ plain. spends_then (c.rounds.invariant.spends plain)
     (c.in_ok-run_commands.ensures.spends (c.rounds.invariant.continues.at_most plain).0)
 
 pub returns-then-not-is_pending-clause-spends : goal.returns-then-not-is_pending-clause-spends
-returns-then-not-is_pending-clause-spends g c = λ plain. spends_on c.rounds.invariant.continues.options (c.rounds.invariant.spends plain)
+returns-then-not-is_pending-clause-spends g c = λ plain. spends_then (c.rounds.invariant.spends plain)
     (c.in_ok-run_commands.ensures.spends (c.rounds.invariant.continues.at_most plain).0)
 
 pub returns-in_err-flush_end-in-Finished-clause-spends : goal.returns-in_err-flush_end-in-Finished-clause-spends

@@ -16,7 +16,7 @@ invariant-rounds g l =
       continues : Continues (point f l.fn.printer (sink l.fn.out) l.fn.visits) (point f l.printer (sink l.out) l.visits);
       none : l.trials.open.items ≡ [];
       spends : Plain (standing f l.fn.printer) →
-          Spends (rule_of g.N.Walk.HAS_SUMMARIES l.fn.printer.options l.limit) (left (standing f l.fn.printer) [] l.fn.visits)
+          Spends (rule_of g.N.Walk.HAS_SUMMARIES l.limit) (left (standing f l.fn.printer) [] l.fn.visits)
           (left (standing f l.printer) [] l.visits);
       summed : IsSummed g.N.Walk.HAS_SUMMARIES f l.printer.commands;
     }

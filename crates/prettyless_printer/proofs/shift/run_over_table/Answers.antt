@@ -50,12 +50,12 @@ pub returns-in-Ok-None-clause-ends : goal.returns-in-Ok-None-clause-ends
 returns-in-Ok-None-clause-ends g c =
     let same = (rw c.in-Ok-None.field-0-is at c.in-Ok-None.ensures.same) tt in
     let sink = seen g.W.Render.bytes g.W.Render.failures g.W.Render.lender in
-    ends_still (standing g.N.Walk.tree c.args.printer.now) (ap sink same.0) same.1 c.run_with_shift-in-Ok-None.ensures.ends
+    ends_still (standing g.N.Walk.tree c.args.printer.now) (ap sink same.0) same.1 c.run_with_shift.ensures.ends
 
 pub returns-in-Ok-None-clause-few : goal.returns-in-Ok-None-clause-few
 returns-in-Ok-None-clause-few g c = λ linear none.
     let same = (rw c.in-Ok-None.field-0-is at c.in-Ok-None.ensures.same) tt in
-    few_still 16 1000 _ c.run_with_shift-in-Ok-None.new.visits same.1 (c.run_with_shift-in-Ok-None.ensures.few linear none)
+    few_still 16 1000 _ c.run_with_shift.new.visits same.1 (c.run_with_shift.ensures.few linear none)
 
 pub returns-in-Ok-None-clause-twice : goal.returns-in-Ok-None-clause-twice
 returns-in-Ok-None-clause-twice g c = λ linear small none.

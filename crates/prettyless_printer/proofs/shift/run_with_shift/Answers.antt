@@ -1,14 +1,13 @@
 use Rattle.std.proofs.Common.{◌≤◌, ◌∙◌, ap, arith, refl, subst, sym}
 use Rattle.std.proofs.lemmas.Result.{err_from_is_err_and}
 use Rattle.prettyless_sink.specs.declared.visits.Visits.{Visits}
-use Rattle.prettyless_model.specs.declared.options.RenderOptions.{RenderOptions}
 use Rattle.prettyless_printer.specs.Points.{buffer_seen, point, seen, standing}
 use Rattle.prettyless_printer.specs.Open.{all_held, seconds}
 use Rattle.prettyless_printer.specs.declared.answer.RunResult.TheVariants as run_result
 use Rattle.prettyless_printer.specs.declared.shift_policy.ShiftPolicy.{ShiftPolicy}
 use Rattle.prettyless_printer.specs.ShiftPolicy.{probe_limit}
 use Rattle.prettyless_printer.proofs.Shifts.{error_anyhow, done_anyhow}
-use Rattle.prettyless_printer.proofs.Shifted.{comes_first, comes_options, comes_still}
+use Rattle.prettyless_printer.proofs.Shifted.{comes_first, comes_still}
 use Rattle.prettyless_printer.proofs.ShiftSpending.{no_room, within_few, within_goes, within_over, within_start, within_still}
 use Rattle.prettyless_printer.proofs.shift.run_with_shift.Goals as goal
 
@@ -45,7 +44,7 @@ returns-in-Finished-clause-few g c = λ linear none.
     let f = g.N.Walk.tree in
     let sink = seen g.W.Render.bytes g.W.Render.failures g.W.Render.lender in
     let start = point f c.args.printer.now (sink c.args.out.now) c.args.visits.now in
-    within_few (within_goes g.N.Walk.HAS_SUMMARIES c.rounds.printer.options c.rounds.policy c.limit-limit.result c.limit-limit.ensures
+    within_few (within_goes g.N.Walk.HAS_SUMMARIES c.rounds.policy c.limit-limit.result c.limit-limit.ensures
     c.rounds.invariant.start (c.rounds.invariant.next linear none) (c.rounds.invariant.within linear none)
     (c.in_ok-resume.ensures.spends start c.rounds.invariant.comes linear.plain))
 
@@ -67,7 +66,7 @@ returns-in_err-resume-clause-few g c = λ linear none.
     let f = g.N.Walk.tree in
     let sink = seen g.W.Render.bytes g.W.Render.failures g.W.Render.lender in
     let start = point f c.args.printer.now (sink c.args.out.now) c.args.visits.now in
-    within_few (within_goes g.N.Walk.HAS_SUMMARIES c.rounds.printer.options c.rounds.policy c.limit-limit.result c.limit-limit.ensures
+    within_few (within_goes g.N.Walk.HAS_SUMMARIES c.rounds.policy c.limit-limit.result c.limit-limit.ensures
     c.rounds.invariant.start (c.rounds.invariant.next linear none) (c.rounds.invariant.within linear none)
     (c.in_err-resume.ensures.spends start c.rounds.invariant.comes linear.plain))
 
@@ -86,13 +85,11 @@ returns-in-Ok-Some-clause-few g c = λ linear none.
     let sink = seen g.W.Render.bytes g.W.Render.failures g.W.Render.lender in
     let start = point f c.args.printer.now (sink c.args.out.now) c.args.visits.now in
     let stopped = rw c.in-Shift.is at c.in_ok-resume.ensures.runs start c.rounds.invariant.comes in
-    let options = comes_options start _ (all_held f c.resume.new.trials.open.items) (buffer_seen c.resume.new.buffer) stopped.comes in
-    within_over c.resume.new.printer.options
-    (within_goes g.N.Walk.HAS_SUMMARIES c.rounds.printer.options c.rounds.policy c.limit-limit.result c.limit-limit.ensures
+    within_over
+    (within_goes g.N.Walk.HAS_SUMMARIES c.rounds.policy c.limit-limit.result c.limit-limit.ensures
     c.rounds.invariant.start (c.rounds.invariant.next linear none) (c.rounds.invariant.within linear none)
     (c.in_ok-resume.ensures.spends start c.rounds.invariant.comes linear.plain))
-    ((rw c.in-Ok-Some.field-0-is at c.in-Ok-Some.ensures.spends) start stopped.comes linear.plain)
-    (omega (arith, linear.width, ap (λ (o : RenderOptions). o.width) options)) linear.size
+    ((rw c.in-Ok-Some.field-0-is at c.in-Ok-Some.ensures.spends) start stopped.comes linear.plain) linear.size
 
 -- it stopped, and a table had no room
 pub rounds-preserved-in-Ok-None : goal.rounds-preserved-in-Ok-None
@@ -110,7 +107,7 @@ rounds-preserved-in-Ok-None g c =
       low = subst (λ (v : Visits). v.probes ≤ probe_limit c.next_room-room.new.self v) (sym same.1) c.next_room-room.ensures.within;
       rises = c.rounds.invariant.rises;
       next = λ linear none.
-          let now = within_goes g.N.Walk.HAS_SUMMARIES c.rounds.printer.options c.rounds.policy c.limit-limit.result c.limit-limit.ensures
+          let now = within_goes g.N.Walk.HAS_SUMMARIES c.rounds.policy c.limit-limit.result c.limit-limit.ensures
           c.rounds.invariant.start (c.rounds.invariant.next linear none) (c.rounds.invariant.within linear none)
           (c.in_ok-resume.ensures.spends start c.rounds.invariant.comes linear.plain) in
           omega (
@@ -120,7 +117,7 @@ rounds-preserved-in-Ok-None g c =
                 (rw c.in-Ok-None.field-0-is at c.in-Ok-None.ensures.large),
           );
       within = λ linear none. within_still p (seconds us) same.1
-          (within_goes g.N.Walk.HAS_SUMMARIES c.rounds.printer.options c.rounds.policy c.limit-limit.result c.limit-limit.ensures
+          (within_goes g.N.Walk.HAS_SUMMARIES c.rounds.policy c.limit-limit.result c.limit-limit.ensures
           c.rounds.invariant.start (c.rounds.invariant.next linear none) (c.rounds.invariant.within linear none)
           (c.in_ok-resume.ensures.spends start c.rounds.invariant.comes linear.plain));
       summed = c.in_ok-resume.ensures.summed;
@@ -159,26 +156,8 @@ rounds-preserved g c =
       low = c.if-is_worth.ensures refl;
       rises = c.rounds.invariant.rises;
       next = c.rounds.invariant.next;
-      within = λ linear none. within_goes g.N.Walk.HAS_SUMMARIES c.rounds.printer.options c.rounds.policy c.limit-limit.result
+      within = λ linear none. within_goes g.N.Walk.HAS_SUMMARIES c.rounds.policy c.limit-limit.result
           c.limit-limit.ensures c.rounds.invariant.start (c.rounds.invariant.next linear none) (c.rounds.invariant.within linear none)
           (c.in_ok-resume.ensures.spends start c.rounds.invariant.comes linear.plain);
       summed = c.in_ok-resume.ensures.summed;
     }
-
--- at a width without summaries
-pub finish-requires-clause-comes : goal.finish-requires-clause-comes
-finish-requires-clause-comes g c =
-    let f = g.N.Walk.tree in
-    let sink = seen g.W.Render.bytes g.W.Render.failures g.W.Render.lender in
-    let start = point f c.args.printer.now (sink c.args.out.now) c.args.visits.now in
-    (start, comes_first f c.new-trials.result.open.items (buffer_seen c.new-buffer.result) start c.new-trials.ensures)
-
-pub returns-then-not-can_shift-clause-ends : goal.returns-then-not-can_shift-clause-ends
-returns-then-not-can_shift-clause-ends g c =
-    let f = g.N.Walk.tree in
-    let sink = seen g.W.Render.bytes g.W.Render.failures g.W.Render.lender in
-    let start = point f c.args.printer.now (sink c.args.out.now) c.args.visits.now in (
-      standing f c.finish.new.printer,
-      c.finish.ensures.ends start (comes_first f c.new-trials.result.open.items (buffer_seen c.new-buffer.result) start
-          c.new-trials.ensures),
-    )

@@ -88,7 +88,7 @@ pub returns-clause-spends : goal.returns-clause-spends
 returns-clause-spends g c = λ a comes plain.
     let f = g.N.Walk.tree in
     let stands = shifted_stands f _ c.args.printer.now c.in_ok-placed.placed c.in_ok-placed.ensures.shifted in
-    spends_over c.in_ok-placed_trials.ensures stands c.in_ok-placed.ensures.shifted.options
+    spends_over c.in_ok-placed_trials.ensures stands
     (c.finish.ensures.spends a
     (comes_over a (buffer_seen c.args.buffer.now) (seen g.W.Render.bytes g.W.Render.failures g.W.Render.lender c.args.out.now)
     c.args.visits.now c.in_ok-placed_trials.ensures stands comes)

@@ -17,7 +17,7 @@ invariant-work g l =
           → Open s y (all_held f l.trials.open.items) now;
       some : (s : Trial) × (y : Tree) × Open s y (all_held f l.trials.open.items) now;
       spends : (s : Trial) (y : Tree) → Open s y (all_held f l.fn.trials.open.items) start → IsPlainTrial s y →
-          Spends (rule_of g.N.Walk.HAS_SUMMARIES l.fn.printer.options l.limit)
+          Spends (rule_of g.N.Walk.HAS_SUMMARIES l.limit)
           (left (standing f l.fn.printer) (seconds (all_held f l.fn.trials.open.items)) l.fn.visits)
           (left (standing f l.printer) (seconds (all_held f l.trials.open.items)) l.visits);
       summed : IsSummed g.N.Walk.HAS_SUMMARIES f l.printer.commands;

@@ -18,7 +18,7 @@ invariant-down g l =
       hand : InHand (point f l.fn.printer (sink l.fn.out) l.fn.visits) (make_task l.indent l.mode (f l.node))
           (point f l.printer (sink l.out) (visited_more l.count l.visits));
       summed : IsSummed g.N.Walk.HAS_SUMMARIES f l.printer.commands;
-      spends : Plain (standing f l.fn.printer) → Spends (rule_of g.N.Walk.HAS_SUMMARIES l.fn.printer.options l.limit)
+      spends : Plain (standing f l.fn.printer) → Spends (rule_of g.N.Walk.HAS_SUMMARIES l.limit)
           (left (standing f l.fn.printer) [] l.fn.visits)
           (left_with (make_task l.indent l.mode (f l.node)) (standing f l.printer) (visited_more l.count l.visits));
     }

@@ -32,7 +32,7 @@ returns-in-Some-sum_of-clause-answer g c =
     let left = ap (λ (z : List Task). z ++ in_break under) none.1 ∙ ap in_break c.skip_to.ensures.unread in
     subst (λ x. ReadsAs f w c.read_by.result x after new.column new.pending)
     (sym (ap (λ (z : List Task). tasks_fit w (z ++ in_break ts) line.column line.pending) none.0
-    ∙ sum_fits c.in-Some-sum_of.ensures.0 w line.column line.pending c.requires.narrow
+    ∙ sum_fits c.in-Some-sum_of.ensures.0 w line.column line.pending
     ∙ answer-each (look_by w sum.sum line.column line.pending) (λ e q. tasks_fit w (in_break (bottom sum.left ts)) e q)
     (λ e q. tasks_fit w after e q) (λ e q. ap (λ (z : List Task). tasks_fit w z e q) (sym left))))
     (c.read_by.ensures.answer after)
@@ -93,7 +93,7 @@ returns-in-Some-sum_of-clause-reads g c long few =
     let none = c.in_default.ensures.popped in
     one_read _ _ _ _ c.one_more.ensures.one
     (ap (λ (z : List Task). reads_all true w z (reads_below true w false ts) line.column line.pending) none.0
-    ∙ sum_reads ts c.in-Some-sum_of.ensures.0 few c.in-Some-sum_of.ensures.1 w line.column line.pending c.requires.narrow
+    ∙ sum_reads ts c.in-Some-sum_of.ensures.0 few c.in-Some-sum_of.ensures.1 w line.column line.pending
     ∙ ap (λ (z : List Task). 1 + read_after (look_by w sum.sum line.column line.pending) (reads_below true w false z))
     (sym c.skip_to.ensures.unread)
     ∙ ap (λ (n : ℕ). 1 + n) (c.read_by.ensures.reads [] next)

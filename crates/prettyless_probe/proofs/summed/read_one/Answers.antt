@@ -18,7 +18,7 @@ returns-in-Some-clause-answer g c ts =
     let new = c.read_by.new.line in
     subst (λ x. ReadsAs f w c.read_by.result x after new.column new.pending)
     (ap (λ (x : Look). answer_of x (λ e q. tasks_fit w after e q))
-    (c.in-Some.ensures.known c.args.indent w line.column line.pending c.requires))
+    (c.in-Some.ensures.known c.args.indent w line.column line.pending))
     (c.read_by.ensures.answer after)
 
 pub returns-in-Some-clause-reads : goal.returns-in-Some-clause-reads
@@ -33,7 +33,7 @@ returns-in-Some-clause-reads g c next on few =
     let found = found_some (g.N.Walk.HAS_SUMMARIES && has_summary d m) (size d) c.in-Some.summary (c.in-Some.ensures.exact few) in
     reads_by_one w i m d ts next line.column line.pending (only_second g.N.Walk.HAS_SUMMARIES (has_summary d m) on found.0)
     ∙ ap (λ (x : Look). 1 + read_after x (reads_all true w ts next))
-    (sym (c.in-Some.ensures.known i w line.column line.pending c.requires))
+    (sym (c.in-Some.ensures.known i w line.column line.pending))
     ∙ ap (λ (n : ℕ). 1 + n) (c.read_by.ensures.reads ts next)
 
 pub returns-in-None-clause-reads : goal.returns-in-None-clause-reads

@@ -10,7 +10,7 @@ use Rattle.toml_statements.proofs.ReadItems.{shown_as_read}
 use Rattle.toml_formatter.specs.Lines.{HasStatements}
 use Rattle.toml_lexemes.specs.Lexemes.{toml_lexemes_of}
 use Rattle.toml_formatter.specs.Documents.{toml_document}
-use Rattle.toml_formatter.specs.Formats.{HasTomlOptions, IsLaidToml, IsTomlLayout, toml_options}
+use Rattle.toml_formatter.specs.Formats.{HasTomlOptions, IsLaidTomlDocument, ShowsToml, toml_options}
 use Rattle.toml_formatter.specs.declared.style.Style.{Style}
 use Rattle.toml_formatter.proofs.DepthLemmas.{memory_of}
 use Rattle.toml_formatter.specs.declared.error.FormatError.{FormatError}
@@ -19,7 +19,7 @@ use Rattle.toml_formatter.proofs.layout.laid.Goals as goal
 -- the layout shows what its document shows, and this is read as the statements of the text
 layout_of : {A : Type 0} (bytes : A → List ℕ) (text : List ℕ) (d : Tree) (o : RenderOptions) → HasStatements text d
     → (r : Result A FormatError) → IfOk r (λ p. HasContent d (bytes p)) → IfOk r (λ p. layout o d ≡ Whole (bytes p))
-    → IfOk r (λ p. IsTomlLayout text (bytes p))
+    → IfOk r (λ p. ShowsToml text (bytes p))
 layout_of bytes text d o h (Ok p) content laid = record {
   document = d;
   options = o;
@@ -44,7 +44,7 @@ returns-clause-err c = IfErr-weaker c.rendered.result _ _ (memory_of c.args.text
 -- the layout is that of the document of the text's lexemes
 laid_as : {A : Type 0} (bytes : A → List ℕ) (style : Style) (text : List ℕ) (d : Tree) (o : RenderOptions) → HasTomlOptions style o
     → d ≡ toml_document style (toml_lexemes_of text) → (r : Result A FormatError) → IfOk r (λ p. layout o d ≡ Whole (bytes p))
-    → IfOk r (λ p. IsLaidToml style text (bytes p))
+    → IfOk r (λ p. IsLaidTomlDocument style text (bytes p))
 laid_as bytes style text d o h e (Ok p) laid =
     let same : layout (toml_options style h.0) (toml_document style (toml_lexemes_of text)) ≡ layout o d =
     λ i. layout (sym h.1 i) (sym e i) in

@@ -16,6 +16,8 @@ use Rattle.toml_formatter.proofs.Values.{part_alone}
 use Rattle.toml_formatter.specs.Documents.{document_from, Level, lexeme_tree, new_level, with_part}
 use Rattle.toml_formatter.specs.Drafts.{ReadsOn}
 use Rattle.toml_formatter.specs.Lines.{ShowsTaken, TakesLine}
+use Rattle.toml_formatter.specs.Numbers.{kind_before}
+use Rattle.toml_formatter.specs.declared.kind.Kind.{Kind}
 use Rattle.toml_formatter.proofs.list.+value.Goals as goal
 
 pub inside-loop-next-preserved : goal.inside-loop-next-preserved
@@ -197,14 +199,16 @@ value-returns-then-not-opens-clause-read t c = λ d lv lvs kinds.
     let tree : lexeme_tree s ≡ ref_tree c.in_ok-lexeme.field-0 = sym (c.in_ok-lexeme.ensures.ok ∙ ap lexeme_tree c.text.ensures) in
     ap (λ (ls : List Level). document_from style (record d { levels = ls }) c.args.lexemes.now)
     (plain_levels style c.args.first c.requires.named c.requires.part (sym c.opens.ensures ∙ c.if-not-opens.true) c.args.is_first lv lvs
+    c.args.lexemes.now
     ∙ (λ i. with_part lv s (tree i) ∷ lvs))
 
 pub value-returns-in-Some-clause-read : goal.value-returns-in-Some-clause-read
 value-returns-in-Some-clause-read t c =
     let line = c.in_ok-line.ensures in
+    let kinds = c.kind_before-kind.ensures.kind ∙ ap (λ (k : Kind). kind_before k c.args.lexemes.now) c.kind_of.ensures.kind in
     IfOk-weaker c.closed.result _ _
     (λ p trees. list_reads c.args.setting.now.style c.args.first (toml_text_of c.in-Some.close) (sym c.opens.ensures ∙ c.if-not-opens.false)
-    c.args.around c.kind_of-kind.result c.args.is_first c.kind_of-kind.ensures.kind c.args.lexemes.now c.inside.new.lexemes c.next.new.self
+    c.args.around c.kind_before-kind.result c.args.is_first c.args.lexemes.now c.inside.new.lexemes c.next.new.self kinds
     c.in_ok-line.line (ref_tree p) (line.read (toml_text_of c.args.first)) line.closing c.in-Some.ensures.next trees)
     c.closed.ensures.tree
 
@@ -212,9 +216,10 @@ pub value-returns-in-None-clause-read : goal.value-returns-in-None-clause-read
 value-returns-in-None-clause-read t c =
     let line = c.in_ok-line.ensures in
     let none = c.in-None.ensures.next in
+    let kinds = c.kind_before-kind.ensures.kind ∙ ap (λ (k : Kind). kind_before k c.args.lexemes.now) c.kind_of.ensures.kind in
     IfOk-weaker c.unclosed.result _ _
     (λ p trees. unclosed_list_reads c.args.setting.now.style c.args.first (sym c.opens.ensures ∙ c.if-not-opens.false)
-    c.args.around c.kind_of-kind.result c.args.is_first c.kind_of-kind.ensures.kind c.args.lexemes.now c.inside.new.lexemes c.next.new.self
+    c.args.around c.kind_before-kind.result c.args.is_first c.args.lexemes.now c.inside.new.lexemes c.next.new.self kinds
     c.in_ok-line.line (ref_tree p) (line.read (toml_text_of c.args.first)) none.0 none.1 trees)
     c.unclosed.ensures.tree
 

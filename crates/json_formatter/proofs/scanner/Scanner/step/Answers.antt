@@ -10,35 +10,35 @@ pub returns-in_ok-opened-clause-scanned : goal.returns-in_ok-opened-clause-scann
 returns-in_ok-opened-clause-scanned c = λ rests k.
     let s = text_of c.in-Some.lexeme in
     let old = c.args.self.now in
-    let before : IsScanned rests old.lists.items old.unclosed.items old.total (s ∷ c.next.new.self)
-    = subst (IsScanned rests old.lists.items old.unclosed.items old.total) c.in-Some.ensures.next k in
+    let before : IsScanned old.compact rests old.lists.items old.unclosed.items old.total (s ∷ c.next.new.self)
+    = subst (IsScanned old.compact rests old.lists.items old.unclosed.items old.total) c.in-Some.ensures.next k in
     let opening : opens s ≡ true = sym c.opens.ensures ∙ c.if-opens.true in
-    let total : c.in-Some-checked_add.total ≡ old.total + lexeme_columns s
+    let total : c.in-Some-checked_add.total ≡ old.total + lexeme_columns old.compact s c.next.new.self
     = c.in-Some-checked_add.ensures.1 ∙ ap (λ n. old.total + n) c.lexeme_columns.ensures in
     let new = c.in_ok-opened.ensures in
-    rw (new.lists, new.unclosed, new.total, new.lexemes, total) (scanned_opening rests _ _ _ s _ before opening)
+    rw (new.compact, new.lists, new.unclosed, new.total, new.lexemes, total) (scanned_opening rests _ _ _ s _ before opening)
 
 pub returns-in_ok-closed-clause-scanned : goal.returns-in_ok-closed-clause-scanned
 returns-in_ok-closed-clause-scanned c = λ rests k.
     let s = text_of c.in-Some.lexeme in
     let old = c.args.self.now in
-    let before : IsScanned rests old.lists.items old.unclosed.items old.total (s ∷ c.next.new.self)
-    = subst (IsScanned rests old.lists.items old.unclosed.items old.total) c.in-Some.ensures.next k in
+    let before : IsScanned old.compact rests old.lists.items old.unclosed.items old.total (s ∷ c.next.new.self)
+    = subst (IsScanned old.compact rests old.lists.items old.unclosed.items old.total) c.in-Some.ensures.next k in
     let opening : opens s ≡ false = sym c.opens.ensures ∙ c.if-opens.false in
     let closing : closes s ≡ true = sym c.closes.ensures ∙ c.if-closes.true in
-    let total : c.in-Some-checked_add.total ≡ old.total + lexeme_columns s
+    let total : c.in-Some-checked_add.total ≡ old.total + lexeme_columns old.compact s c.next.new.self
     = c.in-Some-checked_add.ensures.1 ∙ ap (λ n. old.total + n) c.lexeme_columns.ensures in
     let new = c.in_ok-closed.ensures in
-    rw (new.lists, new.unclosed, new.total, new.lexemes, total) (scanned_closing rests _ _ _ s _ before opening closing)
+    rw (new.compact, new.lists, new.unclosed, new.total, new.lexemes, total) (scanned_closing rests _ _ _ s _ before opening closing)
 
 pub returns-else-closes-clause-scanned : goal.returns-else-closes-clause-scanned
 returns-else-closes-clause-scanned c = λ rests k.
     let s = text_of c.in-Some.lexeme in
     let old = c.args.self.now in
-    let before : IsScanned rests old.lists.items old.unclosed.items old.total (s ∷ c.next.new.self)
-    = subst (IsScanned rests old.lists.items old.unclosed.items old.total) c.in-Some.ensures.next k in
+    let before : IsScanned old.compact rests old.lists.items old.unclosed.items old.total (s ∷ c.next.new.self)
+    = subst (IsScanned old.compact rests old.lists.items old.unclosed.items old.total) c.in-Some.ensures.next k in
     let opening : opens s ≡ false = sym c.opens.ensures ∙ c.if-opens.false in
     let closing : closes s ≡ false = sym c.closes.ensures ∙ c.if-closes.false in
-    let total : c.in-Some-checked_add.total ≡ old.total + lexeme_columns s
+    let total : c.in-Some-checked_add.total ≡ old.total + lexeme_columns old.compact s c.next.new.self
     = c.in-Some-checked_add.ensures.1 ∙ ap (λ n. old.total + n) c.lexeme_columns.ensures in
     rw total (scanned_plain rests _ _ _ s _ before opening closing)

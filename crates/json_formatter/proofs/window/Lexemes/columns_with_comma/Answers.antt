@@ -3,14 +3,14 @@ use Rattle.json_formatter.specs.Window.{IsWindow}
 use Rattle.json_formatter.specs.declared.window.Lexemes.TheInside.{Inside}
 use Rattle.json_formatter.proofs.WindowScans.{window_anew}
 use Rattle.json_formatter.proofs.window.Lexemes.columns_with_comma.Goals as goal
-use Rattle.json_formatter.proofs.window.Lexemes.columns_with_comma.Goals.{in-Some+in-Err, in_default}
+use Rattle.json_formatter.proofs.window.Lexemes.columns_with_comma.Goals.{in-Some+then-measures+in-Err, in_default}
 
 abbrev InOrder : Inside → Type 0
 InOrder a = IsWindow a.reader a.scanner a.passed a.here
 
 pub invariant_of-self-2 : goal.invariant_of-self-2
 invariant_of-self-2 c = elim c.match-self.branch [
-  | in-Some+in-Err w ↦
+  | in-Some+then-measures+in-Err w ↦
       let new = w.restart.ensures in
       subst InOrder (sym w.self-inside-is) (window_anew _ _ (new.lexemes ∙ w.again.ensures) new.lists new.unclosed)
   | in_default w ↦ subst InOrder (sym w.self-inside-is) c.self.invariant

@@ -1,4 +1,0 @@
-use Rattle.bench_workloads.proofs.lists.+levels.Given as goal
-
-abbrev pub decreases-levels : goal.decreases-levels
-decreases-levels g l = l.height

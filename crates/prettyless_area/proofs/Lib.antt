@@ -1,4 +1,0 @@
-mod Accounts
-pub mod Areas
-pub mod Limits
-mod Overlaid

@@ -1,0 +1,119 @@
+//! A sink over an area of bytes.
+ghost use Rattle.std.specs.Prelude.{◌≡◌, ◌<◌, ◌≤◌, [], Some, length, min, take};
+ghost use Rattle.prettyless_exports.specs.Account.{account};
+ghost use Rattle.prettyless_exports.specs.Overlay.{overlay};
+ghost use Rattle.prettyless_exports.specs.declared.area.Full.TheVariants.{Document};
+
+use crate::history::History;
+use prettyless_sink::render::Render;
+
+/// Why an area takes no more.
+#[derive(Clone, Copy, Debug, PartialEq, Eq)]
+pub enum Full {
+    /// The document fails.
+    Document,
+    /// More bytes were given than the limit.
+    Limit,
+}
+
+/// A sink that puts what it is given into an area of bytes that it is lent, from the area's start.
+///
+/// What is past the area's end is counted and not kept. What is past the limit is neither: there a write fails.
+#[derive(Drop)]
+pub struct Area<'o> {
+    out: &'o mut [u8],
+    count: usize,
+    limit: usize,
+    failures: u64,
+    history: History,
+    // The area holds what it was given, as far as the limit, and past that what it held at first.
+    pub ghost holds: { out.now ≡ overlay (take limit history.given) history.before },
+    // What it was given is counted as far as the limit.
+    pub ghost counts: { count ≡ min limit (length history.given) },
+    // It fails only where it is given more than the limit, and then always.
+    pub ghost past: { 0 < failures → limit < length history.given },
+    pub ghost within: { failures ≡ 0 → length history.given ≤ limit },
+}
+
+impl<'o> Area<'o> {
+    /// An area that was given nothing. It takes as many bytes as `limit`.
+    ///
+    /// ```
+    /// Area::new(&mut out, 1000) // its `count` is 0
+    /// ```
+    pub fn new(out: &'o mut [u8], limit: usize) -> Self
+        ensures same_reference { result.out.ghost_name ≡ out.entry.ghost_name }
+        ensures limit { result.limit ≡ limit }
+        ensures before { result.history.before ≡ out.old }
+        ensures given { result.history.given ≡ [] }
+        ensures failures { result.failures ≡ 0 }
+    {
+        let history = History::new(out);
+        Area {
+            out,
+            count: 0,
+            limit,
+            failures: 0,
+            history,
+        }
+    }
+
+    /// How many bytes it took: those that it was given, as far as the limit, also those that it has no room for.
+    #[inline]
+    pub fn count(&self) -> usize
+        ensures { result ≡ self.now.count }
+    {
+        self.count
+    }
+
+    /// How many bytes it has room for.
+    #[inline]
+    pub fn capacity(&self) -> usize
+        ensures { result ≡ length self.now.history.before }
+    {
+        self.out.len()
+    }
+}
+
+impl<'o> Render for Area<'o> {
+    type Error = Full;
+
+    // The account, and not only the bytes that it was given: what a sink has stays the beginning of what it has later. So
+    // after a render the owner knows that the limit and what the area held at first are the same.
+    ghost bytes = { λ area. Some (account area.limit area.history.before area.history.given) };
+
+    ghost failures = { λ area. area.failures };
+
+    ghost lender = { λ area. Some area.out.ghost_name };
+
+    ghost document_errors = { λ _ e. e ≡ Document };
+
+    /// Takes the whole text, and answers its length.
+    #[inline]
+    fn write_str(&mut self, s: &str) -> Result<usize, Full> {
+        self.write_str_all(s)?;
+        Ok(s.len())
+    }
+
+    /// Takes the whole text, and puts as much of it as there is room for. Where it goes past the limit, only what is
+    /// before that is taken, and the failures rise by one.
+    #[inline]
+    fn write_str_all(&mut self, s: &str) -> Result<(), Full> {
+        let piece = s.as_bytes();
+        let taken = piece.len().min(self.limit - self.count);
+        let start = self.count.min(self.out.len());
+        let fits = taken.min(self.out.len() - start);
+        self.out[start..start + fits].copy_from_slice(&piece[..fits]);
+        self.count += taken;
+        self.history = self.history.and(piece);
+        if taken < piece.len() {
+            self.failures = self.failures.saturating_add(1);
+            return Err(Full::Limit);
+        }
+        Ok(())
+    }
+
+    fn fail_doc(&self) -> Full {
+        Full::Document
+    }
+}

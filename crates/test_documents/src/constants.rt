@@ -1,0 +1,112 @@
+//! The constants of an arena: each has one node there, and where memory was refused for them they are placed as other nodes.
+use crate::arena::{CountedPlace, InArena, in_arena};
+use crate::expected::check;
+use bumpalo::Bump;
+use prettyless::text::{BuildError, Text};
+use prettyless::{Constant, Doc, DocAllocator, DocBuilder, DocPlace, DocPtr};
+use std::process::Abort;
+use std::test::Fail;
+
+// Whether a place has one node for the constant.
+fn has<'a, D: DocPlace<'a>>(place: &'a D, which: Constant) -> bool {
+    place.constant(which).is_some()
+}
+
+// The place has the constant, and places nothing for a node that is the same.
+fn place_leaf<'a, D: CountedPlace<'a>>(
+    rt: &impl Abort,
+    place: &'a D,
+    which: Constant,
+    leaf: Doc<'a, D::Doc>,
+) -> Result<(), Fail> {
+    check(rt, has(place, which), "the place", "a constant");
+    place.alloc(leaf)?;
+    check(rt, place.has_no_node(), "the nodes", "a constant");
+    Ok(())
+}
+
+fn place_leaves<'a, D: CountedPlace<'a>>(rt: &impl Abort, place: &'a D) -> Result<(), Fail> {
+    place_leaf(rt, place, Constant::Nil, Doc::Nil)?;
+    place_leaf(rt, place, Constant::Fail, Doc::Fail)?;
+    place_leaf(rt, place, Constant::Space, Doc::Text(Text::Borrowed(" ")))?;
+    place_leaf(rt, place, Constant::WeakSpace, Doc::WeakSpace)?;
+    place_leaf(rt, place, Constant::HardLine, Doc::HardLine)?;
+    place_leaf(rt, place, Constant::WeakLine, Doc::WeakLine)?;
+    place_leaf(rt, place, Constant::ExpandParent, Doc::ExpandParent)
+}
+
+fn place_built<'a, D: DocPlace<'a>>(
+    builder: Result<DocBuilder<'a, D>, BuildError>,
+) -> Result<(), BuildError> {
+    builder?.into_doc()?;
+    Ok(())
+}
+
+fn place_lines<'a, D: DocPlace<'a>>(place: &'a D) -> Result<(), BuildError> {
+    place_built(place.line())?;
+    place_built(place.line_())?;
+    place_built(place.softline())?;
+    place_built(place.softline_())
+}
+
+// Lines are returned, and none is placed.
+fn lines<'a, D: CountedPlace<'a>>(rt: &impl Abort, place: &'a D) -> Result<(), Fail> {
+    place_lines(place)?;
+    check(rt, place.has_no_node(), "the nodes", "lines");
+    Ok(())
+}
+
+// Another text of spaces, one whose width is counted, and a node over constants have a node each.
+fn others<'a, D: CountedPlace<'a>>(rt: &impl Abort, place: &'a D) -> Result<(), Fail> {
+    place.alloc(Doc::Text(Text::Borrowed("  ")))?;
+    place.alloc(Doc::TextWithLen(1, Text::Borrowed(" ")))?;
+    let first = place.alloc(Doc::Text(Text::Borrowed(" ")))?;
+    let second = place.alloc(Doc::Text(Text::Borrowed(" ")))?;
+    place.alloc(Doc::Append(first, second))?;
+    check(rt, place.nodes() == 3, "the nodes", "others");
+    Ok(())
+}
+
+pub(crate) fn one_node_each<'a, D: CountedPlace<'a>>(
+    rt: &impl Abort,
+    place: &'a D,
+) -> Result<(), Fail> {
+    place_leaves(rt, place)?;
+    lines(rt, place)?;
+    others(rt, place)
+}
+
+#[test]
+fn a_constant_has_one_node(rt: HostRuntime) -> Result<(), Fail> {
+    in_arena(&rt, rt.alloc(), None, InArena::Constants)
+}
+
+fn refuses_a_line<'a, D: DocPlace<'a>>(place: &'a D) -> bool {
+    matches!(place.alloc(Doc::HardLine), Err(BuildError::Memory(_)))
+}
+
+fn places_a_group<'a, D: DocPlace<'a>>(place: &'a D) -> Result<bool, BuildError> {
+    let line = place.softline()?.into_doc()?;
+    Ok(matches!(line.doc(), Doc::Group(_)))
+}
+
+// An arena that has no constants refuses a node while it has no room, and then places it as any other.
+pub(crate) fn no_room_at_first<'a, D: CountedPlace<'a>>(
+    rt: &impl Abort,
+    bump: &Bump,
+    place: &'a D,
+) -> Result<(), Fail> {
+    let has_line = has(place, Constant::HardLine);
+    check(rt, !has_line, "the constant", "no room");
+    check(rt, refuses_a_line(place), "the line", "no room");
+    check(rt, place.has_no_node(), "the nodes", "no room");
+    bump.set_allocation_limit(None);
+    check(rt, places_a_group(place)?, "the group", "room");
+    check(rt, place.nodes() == 4, "the nodes", "room");
+    Ok(())
+}
+
+#[test]
+fn constants_find_no_room(rt: HostRuntime) -> Result<(), Fail> {
+    in_arena(&rt, rt.alloc(), Some(0), InArena::ConstantsWithoutRoom)
+}

@@ -1,0 +1,18 @@
+use Rattle.std.proofs.Common.{[], ◌∷◌, rules}
+use Rattle.prettyless_model.specs.Shows.{apart}
+use Rattle.prettyless.specs.Built.{append, softline}
+use Rattle.prettyless.proofs.ShownItems.{softline_shows}
+use Rattle.prettyless_shapes.specs.Items.{ShowsMore}
+use Rattle.prettyless_shapes.proofs.Made.{of_made}
+use Rattle.prettyless_shapes.proofs.ShapesShow.{append_shows_more}
+use Rattle.toml_formatter.proofs.parts.softened.Goals as goal
+
+pub returns-clause-ok : goal.returns-clause-ok
+returns-clause-ok g c = search rules
+
+pub returns-clause-items : goal.returns-clause-items
+returns-clause-items g c =
+    let tree = g.D.Doc.DocPtr.tree in
+    let doc = tree c.args.doc in
+    of_made c.into_doc.result tree (append doc softline) (ShowsMore doc (apart ∷ []))
+    (append_shows_more doc softline (apart ∷ []) softline_shows) (returns-clause-ok g c)
