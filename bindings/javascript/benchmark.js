@@ -3,8 +3,9 @@
 //
 //     node benchmark.js [numbers]
 //
-// A row has the least time of several rounds in milliseconds: of each, building, layout, and both. Their layouts are
-// compared, and have to be the same.
+// A row has the least time of several rounds in milliseconds: of each, building, layout, and both. A ratio is the middle one
+// of those of the rounds, in which all are timed one after another, so that other load of the machine slows all alike. Their
+// layouts are compared, and have to be the same.
 
 import { spawnSync } from "node:child_process";
 import { readFileSync } from "node:fs";
@@ -60,17 +61,16 @@ function nodes(doc) {
     return count;
 }
 
-// The least time of a run in milliseconds.
-function least(run, rounds = ROUNDS) {
-    let best = Infinity;
-    for (let it = 0; it < rounds; it++) {
-        const begun = performance.now();
-        run();
-        best = Math.min(best, performance.now() - begun);
-    }
-    return best;
+// The time of a run in milliseconds.
+function timed(run) {
+    const begun = performance.now();
+    run();
+    return performance.now() - begun;
 }
 
+const repeated = (count, run) => Array.from({ length: count }, run);
+const least = (times) => Math.min(...times);
+const middle = (numbers) => [...numbers].sort((a, b) => a - b)[numbers.length >> 1];
 const shown = (time) => time.toFixed(1).padStart(8);
 
 function compare(name, make) {
@@ -78,19 +78,18 @@ function compare(name, make) {
     for (const width of [40, 80, 120]) {
         const [layout, wanted] = [ours.layout(doc, { width }), reference.print(make(reference), width)];
         if (layout !== wanted) throw new Error(`${name} at ${width} is laid out otherwise`);
-        const times = [[ours, () => ours.layout(doc, { width })], [reference, () => reference.print(other, width)]].map(([m, print]) => {
-            const [building, laying] = [least(() => make(m)), least(print)];
-            return [building, laying, building + laying];
-        });
-        const [[, laying, both], [, otherLaying, otherBoth]] = times;
-        const ratios = [laying / otherLaying, both / otherBoth].map((it) => it.toFixed(2).padStart(8));
+        const runs = [() => make(ours), () => ours.layout(doc, { width }), () => make(reference), () => reference.print(other, width)];
+        const rounds = repeated(ROUNDS, () => runs.map(timed));
+        const [build, lay, otherBuild, otherLay] = runs.map((_, at) => least(rounds.map((it) => it[at])));
+        const ratios = [middle(rounds.map((it) => it[1] / it[3])), middle(rounds.map((it) => (it[0] + it[1]) / (it[2] + it[3])))];
+        const times = [build, lay, build + lay, otherBuild, otherLay, otherBuild + otherLay].map(shown).join("");
         const counts = [String(nodes(other)).padStart(8), String(width).padStart(6)].join("");
-        console.log(`${name.padEnd(11)}${counts} ${times.flat().map(shown).join("")} ${ratios.join("")}`);
+        console.log(`${name.padEnd(11)}${counts} ${times} ${ratios.map((it) => it.toFixed(2).padStart(8)).join("")}`);
     }
 }
 
-// The least time of a program in node.
-const started = (code) => least(() => spawnSync(process.execPath, ["--input-type=module", "--eval", code]), STARTS);
+// Runs a program in node.
+const start = (code) => spawnSync(process.execPath, ["--input-type=module", "--eval", code]);
 
 const numbers = Number(process.argv[2] ?? 18000);
 console.log("                          |      ours, ms          |    reference, ms       |  ours / reference");
@@ -100,9 +99,10 @@ compare("lists", (m) => listed(m, values));
 compare("statements", (m) => statements(m, Math.round(numbers / 2.6)));
 const small = ours.group(["f(", ours.indent([ours.softline, "a,", ours.line, "b"]), ours.softline, ")"]);
 const many = () => { for (let it = 0; it < 1000; it++) ours.layout(small); };
-console.log(`a small document: ${least(many).toFixed(1)} µs`);
+console.log(`a small document: ${least(repeated(ROUNDS, () => timed(many))).toFixed(1)} µs`);
 const module = readFileSync(moduleFile());
 console.log(`the module: ${module.length} bytes, ${gzipSync(module, { level: 9 }).length} by gzip`);
 const first = `import { layout } from "${new URL("./node.js", import.meta.url)}"; layout(["a", "b"]);`;
-const [empty, called] = [started(""), started(first)];
-console.log(`node: ${empty.toFixed(0)} ms for an empty program, ${called.toFixed(0)} ms for one with a first call`);
+const starts = repeated(STARTS, () => ["", first].map((it) => timed(() => start(it))));
+const [empty, called] = [0, 1].map((at) => least(starts.map((it) => it[at])).toFixed(0));
+console.log(`node: ${empty} ms for an empty program, ${called} ms for one with a first call`);

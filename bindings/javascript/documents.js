@@ -3,11 +3,12 @@
 //
 // The names are those of prettier's builders where a builder has its meaning; docs/BINDINGS.md has a table of both.
 
-import { concat, documentOf, documentsOf, string, whole } from "./values.js";
+import { concat, documentOf, documentsOf, partsOf, string, whole } from "./values.js";
 
 // The greatest and the least indent.
 const MOST_COLUMNS = 2n ** 63n - 1n;
 const LEAST_COLUMNS = -(2n ** 63n);
+const FEW = 4;
 
 // Nodes
 
@@ -68,11 +69,13 @@ export const flatten = (doc) => over("flatten", doc);
 export const flatAlt = (broken, flat) => both("flatAlt", broken, flat);
 export const ifBreak = (broken, flat = nil) => flatAlt(broken, flat);
 
+// A separator of few documents stands one by one between those that it separates, and a longer one as one document.
 export function join(separator, docs) {
-    const between = documentOf(separator);
+    const isShort = Array.isArray(separator) && separator.length <= FEW;
+    const between = isShort ? partsOf(separator) : [documentOf(separator)];
     const parts = [];
     for (const doc of docs) {
-        if (parts.length > 0) parts.push(between);
+        if (parts.length > 0) for (const it of between) parts.push(it);
         parts.push(documentOf(doc));
     }
     return concat(parts);

@@ -8,7 +8,10 @@ export const BOTH = 3;
 export const LIST = 4;
 
 export const NIL = 0;
+export const UNICODE = 16;
+export const ASCII = 17;
 export const APPEND = 48;
+export const PARTIAL_UNION = 51;
 export const OPEN = 64;
 export const CLOSE = 65;
 
@@ -43,8 +46,8 @@ export const KINDS = {
     line: here(6, { flat: " " }),
     softline: here(7, { flat: "" }),
     literalline: leaf([3, NIL, APPEND, 35], { breaks: true }),
-    text: text(16),
-    asciiText: text(17),
+    text: text(UNICODE),
+    asciiText: text(ASCII),
     textOfWidth: text(18),
     multilineText: text(19),
     group: over(32),
@@ -56,7 +59,7 @@ export const KINDS = {
     indent: over(37),
     flatAlt: both(49, [1]),
     union: both(50, [0]),
-    partialUnion: both(51, [0]),
+    partialUnion: both(PARTIAL_UNION, [0]),
     ifColumnAtMost: both(52, EITHER),
     ifColumnAtLeast: both(53, EITHER),
     ifColumnIsNesting: both(54, EITHER),
@@ -66,3 +69,12 @@ export const KINDS = {
     fill: list,
     conditionalGroup: list,
 };
+
+// A map finds a type faster than an object does.
+const BY_TYPE = new Map(Object.entries(KINDS));
+
+export function kindOf(node) {
+    const kind = BY_TYPE.get(node?.type);
+    if (kind === undefined) throw new TypeError("a part of the document is none that a function of yezhgulo made");
+    return kind;
+}

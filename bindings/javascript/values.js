@@ -28,44 +28,42 @@ const isNode = (it) => typeof it === "object" && it !== null && typeof it.type =
 // What a function was given, as a string or a node. An array becomes a node, so that no later change of it is seen.
 export function documentOf(given) {
     if (typeof given === "string" || isNode(given)) return given;
-    if (Array.isArray(given)) return concatOf(given);
+    if (Array.isArray(given)) return concat(partsOf(given));
     throw new TypeError(`a document is a string, an array or what a function of yezhgulo made, not ${kindOf(given)}`);
 }
 
 // A node of documents in order. The array is taken over.
 export const concat = (docs) => Object.freeze({ type: "concat", contents: Object.freeze(docs) });
 
-// The documents of an array in order.
-function concatOf(array) {
+// The documents of an array in order, with those of an array in it in its place.
+export function partsOf(array) {
     const parts = new Array(array.length);
     for (let at = 0; at < array.length; at++) {
-        if (Array.isArray(array[at])) return concatOfNested(array);
+        if (Array.isArray(array[at])) return partsOfNested(array);
         parts[at] = documentOf(array[at]);
     }
-    return concat(parts);
+    return parts;
 }
 
 // The same of an array that has arrays in it. Nothing calls itself, at any depth.
-function concatOfNested(array) {
-    const open = [{ array, parts: [] }];
+function partsOfNested(array) {
+    const parts = [];
+    const open = [{ array, at: 0 }];
     const inside = new Set([array]);
-    for (;;) {
-        const { array: last, parts } = open[open.length - 1];
-        if (parts.length < last.length) {
-            const next = last[parts.length];
+    while (open.length > 0) {
+        const last = open[open.length - 1];
+        if (last.at >= last.array.length) inside.delete(open.pop().array);
+        else {
+            const next = last.array[last.at++];
             if (!Array.isArray(next)) parts.push(documentOf(next));
             else if (inside.has(next)) throw new TypeError("an array of documents is inside itself");
             else {
-                open.push({ array: next, parts: [] });
+                open.push({ array: next, at: 0 });
                 inside.add(next);
             }
-        } else {
-            open.pop();
-            inside.delete(last);
-            if (open.length === 0) return concat(parts);
-            open[open.length - 1].parts.push(concat(parts));
         }
     }
+    return parts;
 }
 
 export const documentsOf = (docs) => Object.freeze(Array.from(docs, documentOf));

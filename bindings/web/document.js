@@ -18,12 +18,39 @@ function below({ type, contents }) {
     return shape === kinds.OVER ? [contents] : contents;
 }
 
+// The code is the body of a function. A browser counts its lines after so many others, and names it so in a stack.
+const LINES_BEFORE = 3;
+const IN_STACK = /\bdocument:(\d+):(\d+)/;
+
 // The document that the code answers.
 function documentOf(code) {
     const names = Object.keys(documents);
-    const made = new Function(...names, `"use strict";\n${code}\n`)(...names.map((it) => documents[it]));
+    const body = `"use strict";\n${code}\n//# sourceURL=document`;
+    const made = new Function(...names, body)(...names.map((it) => documents[it]));
     if (made === undefined) throw new TypeError("the code answers no document: end it with `return`");
     return values.documentOf(made);
+}
+
+// Where in the code an error was thrown, if a browser tells: in its stack, or where it reports what is no JavaScript.
+function placeOf(failure, code) {
+    const place = IN_STACK.exec(failure?.stack)?.slice(1) ?? (failure instanceof SyntaxError ? reported(failure) : undefined);
+    if (place === undefined) return undefined;
+    const lines = code.split("\n");
+    const line = place[0] - LINES_BEFORE;
+    if (line > lines.length) return { line: lines.length, column: [...lines[lines.length - 1]].length + 1 };
+    return { line, column: [...lines[line - 1].slice(0, place[1] - 1)].length + 1 };
+}
+
+function reported(failure) {
+    let place;
+    const take = (event) => {
+        event.preventDefault();
+        place = [event.lineno, event.colno];
+    };
+    addEventListener("error", take);
+    reportError(failure);
+    removeEventListener("error", take);
+    return place;
 }
 
 // The same document with marks in its groups, and its tree as lines: of each its text, and the number of its group.
@@ -121,6 +148,7 @@ function documentLayout(printer, code, { width, indent }) {
         const layout = printer.layout(document, options);
         return { layout, ...treeOf(printer, document, layout, { ...options, limit: 20 * MOST_BYTES }) };
     } catch (failure) {
-        return { wrong: failure instanceof errors.YezhguloError ? failure.message : String(failure) };
+        if (failure instanceof errors.YezhguloError) return { wrong: failure.message };
+        return { wrong: String(failure), place: placeOf(failure, code) };
     }
 }

@@ -100,17 +100,17 @@ function received({ answered, took, failed }) {
 // What is shown
 
 function show(answered, took) {
-    const { layout: laid, fault, wrong } = answered;
+    const { layout: laid, fault, wrong, place } = answered;
     at("figures").textContent = "";
     showTree(answered);
-    mark(fault && !isBlank(asked.text) ? fault : null);
+    mark(null);
     if (isBlank(asked.text)) {
         showLayout("");
         say("There is no text yet.", false);
     } else if (fault) {
-        say(`Line ${fault.line}, column ${fault.column}: expected ${fault.expected}.`, true);
+        showWrong(`Line ${fault.line}, column ${fault.column}: expected ${fault.expected}.`, fault);
     } else if (wrong) {
-        showWrong(wrong);
+        showWrong(place ? `Line ${place.line}: ${wrong}` : wrong, place);
     } else {
         showLayout(laid, answered.lines);
         say("Laid out.", false);
@@ -119,8 +119,9 @@ function show(answered, took) {
     }
 }
 
-function showWrong(wrong) {
-    mark(null);
+function showWrong(wrong, place) {
+    mark(place);
+    text.setAttribute("aria-invalid", "true");
     say(wrong, true);
 }
 
@@ -135,7 +136,7 @@ const isBlank = (it) => !/[^ \t\r\n]/.test(it);
 // A reader of the screen says the line aloud where it has changed. At a fault the layout is an older one.
 function say(line, isFault) {
     status.parentElement.classList.toggle("fault", isFault);
-    layout.classList.toggle("stale", isFault);
+    for (const it of [layout, at("tree").firstElementChild]) it.classList.toggle("stale", isFault);
     at("layout-name").textContent = isFault && shown ? "Layout of an earlier text" : "Layout";
     at("copy").disabled = isFault || !shown;
     if (status.textContent !== line) status.textContent = line;
@@ -244,7 +245,8 @@ function goToFault() {
 
 // The options
 
-const CHECKS = ["fill", "groups", "drawn"];
+const OF_JSON = ["fill", "keepBlankLines"];
+const CHECKS = [...OF_JSON, "groups", "drawn"];
 
 function options() {
     return { language: language(), ...numbers, ...Object.fromEntries(CHECKS.map((it) => [it, at(it).checked])) };
@@ -270,7 +272,7 @@ function showLanguage() {
     text.value = texts[current];
     // An example is selected, so that what is pasted takes its place.
     if (text.value === EXAMPLES[current] && !isOfDocuments()) text.setSelectionRange(0, text.textLength);
-    at("fill").disabled = current !== "json";
+    for (const it of OF_JSON) at(it).disabled = current !== "json";
     at("promise").textContent = PROMISES[current];
     at("text-name").textContent = NAMES[current];
     showExample();
@@ -401,7 +403,7 @@ at("slider").addEventListener("input", () => {
     takeNumber("width");
     want(0);
 });
-at("fill").addEventListener("input", () => want(0));
+for (const it of OF_JSON) at(it).addEventListener("input", () => want(0));
 for (const it of ["groups", "drawn"]) at(it).addEventListener("input", showDrawn);
 at("example").addEventListener("input", takeExample);
 for (const it of tabs) {

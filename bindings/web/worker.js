@@ -7,10 +7,10 @@ let printer;
 const isFault = (failure) => failure instanceof errors.JsonError || failure instanceof errors.TomlError;
 
 // The layout of a text, or where it is wrong and what was expected there.
-function textLayout(text, { language, width, indent, fill }) {
+function textLayout(text, { language, ...options }) {
     const format = language === "toml" ? printer.formatToml : printer.formatJson;
     try {
-        return { layout: format(text, { width, indent, fill }) };
+        return { layout: format(text, options) };
     } catch (failure) {
         if (!isFault(failure)) throw failure;
         const { line, column, expected } = failure;

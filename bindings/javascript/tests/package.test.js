@@ -1,8 +1,10 @@
 // Tests of the package: each builder, options, errors and depth. Layouts are worked by hand, or are those of docs/GUIDE.md.
 
 import assert from "node:assert/strict";
+import { once } from "node:events";
 import { readFileSync } from "node:fs";
 import { describe, test } from "node:test";
+import { Worker } from "node:worker_threads";
 import { moduleFile } from "../module_file.js";
 import * as y from "../node.js";
 import * as reference from "./reference.js";
@@ -45,6 +47,8 @@ describe("prettier's builders", () => {
     test("join takes what can be walked", () => {
         lays(join(", ", new Set(["a", "b"])), { 80: "a, b" });
         lays(join([",", line], []), { 80: "" });
+        lays(join([",", " ", "a", "b", "c"], ["1", ["2"], "3"]), { 80: "1, abc2, abc3" });
+        lays(join([], [[], "1", ["2", ["3"]]]), { 80: "123" });
         lays(group(join(line, ["1", "2", "3"])), { 5: "1 2 3", 4: "1\n2\n3" });
     });
 
@@ -95,6 +99,9 @@ describe("prettier's builders", () => {
     });
 
     test("a line takes the indent where it stands", () => {
+        for (const nothing of [[], [[]], "", y.nil, [[], ["", []]]]) {
+            lays([indent(["{", hardline, nothing]), "}"], { 80: "{\n  }" });
+        }
         lays([indent(["{", hardline]), "}"], { 80: "{\n  }" });
         lays([indent(["{", group([softline, "x"]), softline]), "}"], { 1: "{\n  x\n  }" });
     });
@@ -272,11 +279,23 @@ describe("documents", () => {
     test("they are frozen", () => {
         const doc = group(["a", line]);
         assert.throws(() => { doc.contents = "b"; }, TypeError);
-        assert.throws(() => { doc.contents.parts[0] = "b"; }, TypeError);
+        assert.throws(() => { doc.contents.contents[0] = "b"; }, TypeError);
+        assert.throws(() => { doc.contents.contents.push("b"); }, TypeError);
+        lays(doc, { 80: "a " });
     });
 
     test("a copy, such as one that is posted to a worker, is laid out as they are", () => {
         lays(structuredClone(call(["a,", line, "b"])), { 7: "f(a, b)", 6: "f(\n  a,\n  b\n)" });
+    });
+
+    test("a worker lays out what is posted to it", async () => {
+        const worker = new Worker(IN_WORKER, { eval: true, workerData: new URL("../node.js", import.meta.url).href });
+        try {
+            worker.postMessage(call(["a,", line, "b"]));
+            assert.deepEqual(await once(worker, "message"), ["f(\n  a,\n  b\n)"]);
+        } finally {
+            await worker.terminate();
+        }
     });
 
     test("one in several places is laid in each", () => {
@@ -376,6 +395,14 @@ describe("the package", () => {
         }
     });
 });
+
+// What a worker does: it lays out each document that it gets.
+const IN_WORKER = `
+    const { parentPort, workerData } = require("node:worker_threads");
+    import(workerData).then(({ layout }) => {
+        parentPort.on("message", (doc) => parentPort.postMessage(layout(doc, { width: 6 })));
+    });
+`;
 
 // The code of an example, where each call of `console.log` is compared with the comments after it.
 function shown(code) {

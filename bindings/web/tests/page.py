@@ -23,10 +23,11 @@ inline={x=1,"y z"=[true,"ü"]}
 """
 REMARKS = "# a remark alone\n\n\n\n# another"
 STRINGS = 'x = """\ntwo lines\n"""\ny = \'one\' # line'
+SPACED = '{"a":\n\n1,\n\n\n"b": [2,\n\n3]\n\n}'
 # The deepest that is laid out.
 DEEP = "[" * 128 + "]" * 128
 TEXTS = {
-    "json": [LISTS, NUMBERS, STRANGE, MEMBERS, DEEP, "null", '"a"', "[]", " [ 1 , 2 ]\n\n"],
+    "json": [LISTS, NUMBERS, STRANGE, MEMBERS, SPACED, DEEP, "null", '"a"', "[]", " [ 1 , 2 ]\n\n"],
     "toml": [TABLES, REMARKS, STRINGS, f"a = {DEEP}", "a.b . c = [[1, 2], [3, 4], []]"],
 }
 FAULTS = {
@@ -65,9 +66,11 @@ BROKEN = {
 }
 # Code that comes to no layout, and how what is said begins.
 WRONG = {
-    "return group(": "SyntaxError: ",
+    "return group(": "Line 1: SyntaxError: ",
+    "const it = line;\n  const one = (;\nreturn one": "Line 2: SyntaxError: ",
+    "const it = line;\n  nowhere();": "Line 2: ReferenceError: ",
     "const it = line;": "TypeError: the code answers no document",
-    "return group(3)": "TypeError: a document is a string, an array",
+    "return group(3)": "Line 1: TypeError: a document is a string, an array",
     "return ['a', fail]": "no layout: ",
     "return nest(2000000, [hardline, 'a'])": "the layout is longer than 1000000 bytes",
     "for (;;);": "The code took more than 3 seconds.",
@@ -102,20 +105,21 @@ class Page:
         """Waits until what is shown is of the text and the options as they are."""
         waited_for("the page", lambda: self.script("return at('paper').getAttribute('aria-busy') === 'false'"))
 
-    def put(self, language, text, width=56, indent=2, fill=False):
+    def put(self, language, text, width=56, indent=2, fill=False, keep=False):
         """Puts a text and options in, as typing does."""
         self.script(
-            """const [language, text, width, indent, fill] = arguments;
+            """const [language, text, width, indent, fill, keep] = arguments;
             const changed = (it, how) => it.dispatchEvent(new Event(how, { bubbles: true }));
             at(language === "documents" ? "of-documents" : "of-texts").click();
             const radio = document.querySelector(`[value=${language}]`);
             if (radio && !radio.checked) { radio.checked = true; changed(radio, "change"); }
-            Object.assign(at("fill"), { checked: fill });
+            at("fill").checked = fill;
+            at("keepBlankLines").checked = keep;
             for (const [id, value] of Object.entries({ text, width, indent })) {
                 at(id).value = value;
                 changed(at(id), "input");
             }""",
-            *(language, text, width, indent, fill),
+            *(language, text, width, indent, fill, keep),
         )
         self.settle()
 
@@ -125,7 +129,8 @@ class Page:
             """return {
                 language: at("of-documents").getAttribute("aria-selected") === "true"
                     ? "documents" : document.querySelector("[name=language]:checked").value,
-                text: at("text").value, width: at("width").value, indent: at("indent").value, fill: at("fill").checked,
+                text: at("text").value, width: at("width").value, indent: at("indent").value,
+                fill: at("fill").checked, keep: at("keepBlankLines").checked,
                 layout: [...at("layout").children].map((it) => it.textContent.replace(/^\\n$/, "")).join("\\n"),
                 status: at("status").textContent, invalid: at("text").getAttribute("aria-invalid"),
                 copy: !at("copy").disabled,
@@ -138,6 +143,7 @@ class Page:
         words = [f"{self.formatters}/{state['language']}fmt", "--width", state["width"], "--indent", state["indent"]]
         if state["language"] == "json":
             words += ["--compact", "--fill", "numbers" if state["fill"] else "none"]
+            words += ["--keep-blank-lines"] if state["keep"] else []
         ended = subprocess.run(words, input=state["text"].encode(), stdout=subprocess.PIPE, stderr=subprocess.PIPE)
         return ended.returncode, ended.stdout.decode(), ended.stderr.decode()
 
@@ -264,12 +270,31 @@ def test_tree(page):
     page.browser.keys("#drawn", SPACE)
 
 
+def test_focus_of_documents(page):
+    """Walks through what takes keys in the tab of documents, where the tree is shown."""
+    page.put("documents", "return line")
+    page.browser.keys("#drawn", SPACE)
+    page.script("at('of-documents').focus()")
+    walked = []
+    for _ in range(10):
+        walked.append(page.focused())
+        page.browser.keys(f"#{walked[-1]}", TAB)
+    same("what takes keys", walked[:8], ["of-documents", "example", "slider", "width", "indent", "groups", "drawn", "text"])
+    same("what comes after the text", (walked[8:], page.focused()), (["copy", "paper"], "tree"))
+    page.browser.keys("#drawn", SPACE)
+
+
 def test_wrong_codes(page):
     """What is said of code that comes to no layout; and after it others do."""
     for code, said in WRONG.items():
         page.put("documents", code)
         same(f"what is said of {code}", page.state()["status"][: len(said)], said)
         same("whether the layout is stale", page.script("return at('layout').className"), "stale")
+        state = page.state()
+        shown = (state["invalid"], state["marks"])
+        same("whether the code is wrong, and its place is marked", shown, ("true", said.startswith("Line ")))
+        if "nowhere" in code:
+            same("what is marked", (state["before"], state["mark"]), ("  ", "nowhere"))
         page.put("documents", "return group(['a', line, 'b'])", 2)
         compare_document(page)
 
@@ -309,6 +334,11 @@ def test_keyboard(page):
     page.browser.keys("#fill", SPACE)
     same("the filling", page.state()["fill"], True)
     page.compare()
+    clear(page)
+    page.browser.keys("#text", SPACED)
+    page.browser.keys("#keepBlankLines", SPACE)
+    same("whether blank lines are kept", page.state()["keep"], True)
+    page.compare()
     page.browser.keys("[value=json]", ARROW_RIGHT)
     same("the language", page.state()["language"], "toml")
     page.compare()
@@ -335,11 +365,11 @@ def test_focus(page):
     page.put("json", "[1,")
     page.script("document.querySelector('[name=language]:checked').focus()")
     walked = []
-    for _ in range(7):
+    for _ in range(8):
         walked.append(page.focused())
         selector = f"#{walked[-1]}" if walked[-1] else "[name=language]:checked"
         page.browser.keys(selector, TAB)
-    same("what takes keys", walked, ["", "slider", "width", "indent", "fill", "text", "go"])
+    same("what takes keys", walked, ["", "slider", "width", "indent", "fill", "keepBlankLines", "text", "go"])
     same("what comes last", page.focused(), "paper")
 
 
@@ -355,7 +385,7 @@ def test_example(page):
 def test_kept(page):
     """Opens the page again: options and texts are as they were, but for long texts and empty ones."""
     page.put("toml", TABLES, 33, 5)
-    page.put("json", NUMBERS, 44, 3, True)
+    page.put("json", NUMBERS, 44, 3, True, True)
     before = page.state()
     page.open()
     page.compare()
@@ -390,10 +420,13 @@ def test_nothing_kept(kind, path, formatters):
 def test_options(page):
     """Each text with each of the options."""
     for language, texts in TEXTS.items():
-        fills = (False, True) if language == "json" else (False,)
-        for text, width, indent, fill in itertools.product(texts, WIDTHS, INDENTS, fills):
+        checks = (False, True) if language == "json" else (False,)
+        for text, width, indent, fill in itertools.product(texts, WIDTHS, INDENTS, checks):
             page.put(language, text, width, indent, fill)
             page.compare()
+    for width in WIDTHS:
+        page.put("json", SPACED, width, keep=True)
+        page.compare()
 
 
 def test_faults(page):
@@ -531,7 +564,7 @@ def test_in(kind, path, formatters, pictures):
             test(page)
         for test in (test_blank, test_mark, test_select, test_small, test_contrasts):
             test(page)
-        for test in (test_tabs, test_documents, test_tree, test_wrong_codes, test_documents_kept):
+        for test in (test_tabs, test_documents, test_tree, test_focus_of_documents, test_wrong_codes, test_documents_kept):
             test(page)
         picture_of_documents(page, f"{pictures}/{kind.name.lower()}_documents")
         took, wait = test_large(page)
