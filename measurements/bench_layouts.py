@@ -46,7 +46,7 @@ def cell():
     return group(append(text("a"), text("b")))
 
 
-def remark(s):
+def comment(s):
     return ("suffix", text(s))
 
 
@@ -55,10 +55,10 @@ WORKLOADS = {
     "texts": (1000, 80, True, levels("a", lambda d: group(append(text("a"), LINE, d)))),
     "kept": (100, 80, True, levels("a", lambda d: ("union", append(text("a"), BREAK, d), text("b")))),
     "tails": (100, 80, True, levels("a", lambda d: append(group(append(LINE_, d)), text("a text of forty columns, behind a group.")))),
-    "weak": (1000, 80, False, lines(lambda: append(text("a text with a remark"), WEAK, remark("  # why"), BREAK))),
+    "weak": (1000, 80, False, lines(lambda: append(text("a text with a remark"), WEAK, comment("  # why"), BREAK))),
     "sums": (1000, 80, True, levels("a", lambda d: group(append(d, LINE, text("+ b"))))),
     "spaces": (1000, 80, True, levels("a", lambda d: group(append(append(text("a"), WEAK), LINE, d)))),
-    "remarks": (1000, 80, True, levels("a", lambda d: group(append(append(text("a"), remark("  # why")), LINE, d)))),
+    "remarks": (1000, 80, True, levels("a", lambda d: group(append(append(text("a"), comment("  # why")), LINE, d)))),
     "unions": (1000, 80, True, levels("a", lambda d: group(append(text("a"), LINE, ("union", d, text("b")))))),
     "partial": (1000, 80, True, levels("a", lambda d: group(append(text("a"), LINE, ("partial", d, text("b")))))),
     "records": (50, 80, False, lines(lambda: append(append(*(cell() for _ in range(30))), BREAK))),

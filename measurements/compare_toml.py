@@ -4,7 +4,7 @@ files and texts, byte by byte, and compares which the two take.
 
 usage: compare_toml.py TOMLFMT [TEXTS] [SEED] [FOLDER]..     (2,000 of each, the seed 1, and /usr and /root if none are named)
 
-Of each file the layouts at 20, 40 and 80 columns have to read as the same value, with the same remarks in the same order, and
+Of each file the layouts at 20, 40 and 80 columns have to read as the same value, with the same comments in the same order, and
 to be their own layouts. A text that `tomllib` refuses has to be refused, unless it is refused for a key that is defined twice,
 and a text that it takes has to be taken. Ends with status 1 where one differs; of such a text the least form found is shown.
 Python 3.11 or later. Of Debian's packages `rust-src`, `librust-toml-dev`, `python3-hatchling` and `python3-poetry-core` bring files.
@@ -17,7 +17,7 @@ import sys
 import tomllib
 
 WIDTHS = ("20", "40", "80")
-# Strings of the four kinds, and remarks: what a `#` is in.
+# Strings of the four kinds, and comments: what a `#` is in.
 PART = re.compile(rb'"""(?:\\[\s\S]|[^\\])*?"{3,5}|\'\'\'[\s\S]*?\'{3,5}|"(?:\\.|[^"\\\n])*"|\'[^\'\n]*\'|#[^\n]*')
 TWICE = re.compile(r"Cannot (overwrite|declare|mutate|redefine|define)|Duplicate inline table key")
 
@@ -30,8 +30,8 @@ def read(text):
         return None, str(error)
 
 
-def remarks(text):
-    """The remarks, without the blanks at their ends."""
+def comments(text):
+    """The comments, without the blanks at their ends."""
     return [it.rstrip(b" \t\r") for it in PART.findall(text) if it.startswith(b"#")]
 
 
@@ -56,8 +56,8 @@ def fault(program, text, widths=WIDTHS):
             return f"refused: {said}"
         elif read(ran.stdout)[0] != value:
             return f"another value at width {width}"
-        elif remarks(ran.stdout) != remarks(text):
-            return f"other remarks at width {width}"
+        elif comments(ran.stdout) != comments(text):
+            return f"other comments at width {width}"
         elif run(program, ran.stdout, "--width", width).stdout != ran.stdout:
             return f"another layout of the layout at width {width}"
     return None
@@ -88,14 +88,14 @@ WORDS = ["1", "-0", "+9_000", "0xDEAD_beef", "0o17", "0b1", "1.5e-3", "6E+2", "-
 LONG = ['"""\na "" b\n  c\\\n d"""', "'''\n# none\n  x '''", '"""q"""""', "''''''"]
 KEYS = ["a", "b-1", "_", "1979-05-27", "1.5", "true", '"k e y"', "'=['", '""', "long_names_take_more_room"]
 BLANKS = ["", "", " ", "  ", "\t", " \t "]
-REMARKS = ["# r", "#", "#\tends with blanks  \t", "# \"no string", "## é [x]", "# " + "long " * 12]
+COMMENTS = ["# r", "#", "#\tends with blanks  \t", "# \"no string", "## é [x]", "# " + "long " * 12]
 
 
 def gap(rng, lines):
-    """Blanks, and where lines may end there, line ends and remarks."""
+    """Blanks, and where lines may end there, line ends and comments."""
     made = rng.choice(BLANKS)
     while lines and rng.random() < 0.35:
-        made += (rng.choice(REMARKS) if rng.random() < 0.5 else "") + "\n" * rng.choice([1, 1, 2, 3]) + rng.choice(BLANKS)
+        made += (rng.choice(COMMENTS) if rng.random() < 0.5 else "") + "\n" * rng.choice([1, 1, 2, 3]) + rng.choice(BLANKS)
     return made
 
 
@@ -120,7 +120,7 @@ def made_text(rng):
     lines, number = [], 0
     for _ in range(rng.randrange(1, 12)):
         number += 1
-        kind, end = rng.random(), rng.choice(["", "", " " + rng.choice(REMARKS)])
+        kind, end = rng.random(), rng.choice(["", "", " " + rng.choice(COMMENTS)])
         parts = [gap(rng, False) + "." + gap(rng, False) + rng.choice(KEYS) for _ in range(rng.randrange(3))]
         key = rng.choice(BLANKS) + f"n{number}" + "".join(parts)
         if kind < 0.15:
@@ -128,7 +128,7 @@ def made_text(rng):
         elif kind < 0.25:
             lines.append("[[" + key + gap(rng, False) + "]]" + gap(rng, False) + end)
         elif kind < 0.4:
-            lines.append(rng.choice(BLANKS) + rng.choice(["", "", rng.choice(REMARKS)]))
+            lines.append(rng.choice(BLANKS) + rng.choice(["", "", rng.choice(COMMENTS)]))
         else:
             lines.append(key + gap(rng, False) + "=" + gap(rng, False) + value(rng, 3, True) + gap(rng, False) + end)
     text = "\n".join(lines) + rng.choice(["", "\n", "\n\n"])

@@ -1,5 +1,5 @@
 #!/usr/bin/env python3
-"""Writes a TOML text of about so many megabytes: tables and arrays of tables with remarks, strings of all four kinds, numbers,
+"""Writes a TOML text of about so many megabytes: tables and arrays of tables with comments, strings of all four kinds, numbers,
 dates, arrays in arrays, inline tables, and texts that are not ASCII.
 
 usage: make_toml.py MEGABYTES > FILE

@@ -2,7 +2,9 @@
 
 use crate::groups::{bare_groups, tail_groups, text_groups};
 use crate::json::array;
-use crate::levels::{cell_lines, partial_groups, remark_groups, spaced_groups, sums, union_groups};
+use crate::levels::{
+    cell_lines, comment_groups, partial_groups, spaced_groups, sums, union_groups,
+};
 use crate::lists::{list, right_list, tree};
 use crate::objects::real;
 use crate::parts::Built;
@@ -33,7 +35,7 @@ pub(crate) fn document<'a, D: DocPlace<'a>>(
         Workload::RealJson => real(place, size),
         Workload::Sums => sums(place, size),
         Workload::SpacedGroups => spaced_groups(place, size),
-        Workload::RemarkGroups => remark_groups(place, size),
+        Workload::CommentGroups => comment_groups(place, size),
         Workload::UnionGroups => union_groups(place, size),
         Workload::PartialGroups => partial_groups(place, size),
         Workload::CellLines => cell_lines(place, size),

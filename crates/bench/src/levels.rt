@@ -44,17 +44,17 @@ pub(crate) fn spaced_groups<'a, D: DocPlace<'a>>(place: &'a D, depth: usize) -> 
     all
 }
 
-// A text, a remark put off to the end of the line, a line and a document, in a group.
-fn remark_group<'a, D: DocPlace<'a>>(place: &'a D, inner: Built<'a, D>) -> Built<'a, D> {
+// A text, a comment put off to the end of the line, a line and a document, in a group.
+fn comment_group<'a, D: DocPlace<'a>>(place: &'a D, inner: Built<'a, D>) -> Built<'a, D> {
     let front = joined(place, text(place, "a"), put_off(place, "  # why"));
     line_group(place, front, inner)
 }
 
-/// Groups nested so deep, with a remark in each.
-pub(crate) fn remark_groups<'a, D: DocPlace<'a>>(place: &'a D, depth: usize) -> Built<'a, D> {
+/// Groups nested so deep, with a comment in each.
+pub(crate) fn comment_groups<'a, D: DocPlace<'a>>(place: &'a D, depth: usize) -> Built<'a, D> {
     let mut all = text(place, "a");
     for _ in 0..depth {
-        all = remark_group(place, all);
+        all = comment_group(place, all);
     }
     all
 }

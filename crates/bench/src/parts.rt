@@ -69,8 +69,8 @@ pub(crate) fn grouped<'a, D: DocPlace<'a>>(place: &'a D, inner: Built<'a, D>) ->
 
 /// A text that is put off to the end of its line.
 #[inline(always)]
-pub(crate) fn put_off<'a, D: DocPlace<'a>>(place: &'a D, remark: &'a str) -> Built<'a, D> {
-    placed(DocBuilder::from_doc(place, text(place, remark)?).as_line_suffix())
+pub(crate) fn put_off<'a, D: DocPlace<'a>>(place: &'a D, comment: &'a str) -> Built<'a, D> {
+    placed(DocBuilder::from_doc(place, text(place, comment)?).as_line_suffix())
 }
 
 /// A document, or else a text.

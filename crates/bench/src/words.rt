@@ -41,22 +41,22 @@ pub(crate) fn lines<'a, D: DocPlace<'a>>(place: &'a D, lines: usize) -> Built<'a
     )
 }
 
-// A text, a weak space, a remark put off to the end of the line, and that end.
-fn remarked<'a, D: DocPlace<'a>>(place: &'a D) -> Built<'a, D> {
+// A text, a weak space, a comment put off to the end of the line, and that end.
+fn commented<'a, D: DocPlace<'a>>(place: &'a D) -> Built<'a, D> {
     let front = joined(
         place,
         text(place, "a text with a remark"),
         node(place, Doc::WeakSpace),
     );
-    let with_remark = joined(place, front, put_off(place, "  # why"));
-    joined(place, with_remark, line_break(place))
+    let with_comment = joined(place, front, put_off(place, "  # why"));
+    joined(place, with_comment, line_break(place))
 }
 
-/// So many lines with a weak space and a remark at the end of each.
+/// So many lines with a weak space and a comment at the end of each.
 pub(crate) fn weak_spaces<'a, D: DocPlace<'a>>(place: &'a D, lines: usize) -> Built<'a, D> {
     let mut all = node(place, Doc::Nil);
     for _ in 0..lines {
-        all = joined(place, all, remarked(place));
+        all = joined(place, all, commented(place));
     }
     all
 }

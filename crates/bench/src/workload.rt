@@ -27,7 +27,7 @@ pub enum Workload {
     TailGroups,
     /// A list that leans to the right.
     RightList,
-    /// Lines with a weak space and a remark at the end of each.
+    /// Lines with a weak space and a comment at the end of each.
     WeakSpaces,
     /// Objects in objects, as files of JSON have them.
     RealJson,
@@ -35,8 +35,8 @@ pub enum Workload {
     Sums,
     /// Groups in groups, with a weak space in each.
     SpacedGroups,
-    /// Groups in groups, with a remark in each, put off to the end of its line.
-    RemarkGroups,
+    /// Groups in groups, with a comment in each, put off to the end of its line.
+    CommentGroups,
     /// Groups in groups, each the first of two alternatives.
     UnionGroups,
     /// The same of alternatives of which only the first lines have to fit.
@@ -63,7 +63,7 @@ pub const WORKLOADS: &[Workload] = &[
     Workload::RealJson,
     Workload::Sums,
     Workload::SpacedGroups,
-    Workload::RemarkGroups,
+    Workload::CommentGroups,
     Workload::UnionGroups,
     Workload::PartialGroups,
     Workload::CellLines,
@@ -89,7 +89,7 @@ impl Workload {
             Workload::RealJson => "real",
             Workload::Sums => "sums",
             Workload::SpacedGroups => "spaces",
-            Workload::RemarkGroups => "remarks",
+            Workload::CommentGroups => "remarks",
             Workload::UnionGroups => "unions",
             Workload::PartialGroups => "partial",
             Workload::CellLines => "records",
@@ -132,7 +132,7 @@ impl Workload {
             | Workload::TailGroups
             | Workload::Sums
             | Workload::SpacedGroups
-            | Workload::RemarkGroups
+            | Workload::CommentGroups
             | Workload::UnionGroups
             | Workload::PartialGroups => &[1_000, 10_000, 100_000],
             _ => &[1_000_000],
@@ -159,7 +159,7 @@ pub(crate) fn workload_named(word: &str) -> Option<Workload> {
         "real" => Some(Workload::RealJson),
         "sums" => Some(Workload::Sums),
         "spaces" => Some(Workload::SpacedGroups),
-        "remarks" => Some(Workload::RemarkGroups),
+        "remarks" => Some(Workload::CommentGroups),
         "unions" => Some(Workload::UnionGroups),
         "partial" => Some(Workload::PartialGroups),
         "records" => Some(Workload::CellLines),

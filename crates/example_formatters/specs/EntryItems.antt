@@ -1,4 +1,4 @@
--- What the layout of entries shows: each name, value and remark, in order, with the gaps between them.
+-- What the layout of entries shows: each name, value and comment, in order, with the gaps between them.
 use Rattle.std.specs.Prelude.{◌≡◌, ℕ, codes, List, [], ◌∷◌, ◌++◌, map, Option, Some, None, String, string_bytes}
 use Rattle.prettyless_shapes.specs.Shown.{text_items, with_gaps}
 use Rattle.prettyless_shapes.specs.Shows.{Item, Shown, spaced, apart, ended, AreShown}
@@ -15,14 +15,14 @@ headed name sign = text_items name ++ (spaced ∷ Shown sign ∷ [])
 abbrev pub ended_value : List ℕ → List Item
 ended_value value = text_items value ++ Shown (codes ";") ∷ []
 
--- items, and on the line where they end a remark
-abbrev pub remarked_items : {A : Type 0} → List Item → Option (String A) → List Item
-remarked_items items None = items
-remarked_items items (Some remark) = items ++ (spaced ∷ text_items (string_bytes remark))
+-- items, and on the line where they end a comment
+abbrev pub commented_items : {A : Type 0} → List Item → Option (String A) → List Item
+commented_items items None = items
+commented_items items (Some comment) = items ++ (spaced ∷ text_items (string_bytes comment))
 
 -- a setting, whose value may be on the next line
 abbrev pub setting_items : Setting → List Item
-setting_items s = remarked_items (headed (string_bytes s.name) (codes "=") ++ (apart ∷ ended_value (string_bytes s.value))) s.remark
+setting_items s = commented_items (headed (string_bytes s.name) (codes "=") ++ (apart ∷ ended_value (string_bytes s.value))) s.comment
 
 -- entries in braces, each of them on lines of its own
 abbrev pub block_items : List ℕ → List (List Item) → List Item

@@ -1,12 +1,12 @@
 //! The entries of a configuration.
 
-/// A name, its value, and the remark after it, if there is one. A remark begins with its sign, as in `# why`, and goes up to
+/// A name, its value, and the comment after it, if there is one. A comment begins with its sign, as in `# why`, and goes up to
 /// the end of its line.
 #[derive(Debug, Drop, PartialEq)]
 pub struct Setting {
     pub name: String,
     pub value: String,
-    pub remark: Option<String>,
+    pub comment: Option<String>,
 }
 
 /// A setting, or a name with entries of its own.

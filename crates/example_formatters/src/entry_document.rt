@@ -26,9 +26,9 @@ fn setting<'a, D: DocPlace<'a>>(place: &'a D, setting: &'a Setting) -> Result<D:
         text(place, ";")?,
     )?;
     let both = hanging(place, name, value, 2)?;
-    match &setting.remark {
+    match &setting.comment {
         None => Ok(both),
-        Some(remark) => spaced(place, both, text(place, remark.as_str())?),
+        Some(comment) => spaced(place, both, text(place, comment.as_str())?),
     }
 }
 

@@ -23,7 +23,7 @@ fn write_in<'a>(
     Ok(())
 }
 
-/// Appends the layout of entries at this width, in columns. It shows each name, value and remark, in order, and each remark
+/// Appends the layout of entries at this width, in columns. It shows each name, value and comment, in order, and each comment
 /// ends its line. Where it fails, a beginning of the layout may have been appended.
 pub fn write_entries(
     alloc: Global,

@@ -16,13 +16,13 @@ of_made result tree wanted P h made = IfOk-weaker result _ _ (λ p e. subst P (s
 
 -- a space and a text are something, and no line suffix
 put_off : (by_bytes : Bool) (w : ℕ) (s : List ℕ)
-    → let remark = append space (if by_bytes then Text s else TextWithLen w s) in as_line_suffix remark ≡ LineSuffix remark
+    → let comment = append space (if by_bytes then Text s else TextWithLen w s) in as_line_suffix comment ≡ LineSuffix comment
 put_off true w s = refl
 put_off false w s = refl
 
-pub remark_put_off : (s : List ℕ) → as_line_suffix (append space (text s)) ≡ LineSuffix (append space (text s))
-remark_put_off [] = refl
-remark_put_off (b ∷ bs) = put_off (is_ascii (b ∷ bs)) _ (b ∷ bs)
+pub comment_put_off : (s : List ℕ) → as_line_suffix (append space (text s)) ≡ LineSuffix (append space (text s))
+comment_put_off [] = refl
+comment_put_off (b ∷ bs) = put_off (is_ascii (b ∷ bs)) _ (b ∷ bs)
 
 -- a list of some members
 pub list_some : (style : ListStyle) (before : List ℕ) (xs : List Tree) (mark after : List ℕ) → 0 < length xs

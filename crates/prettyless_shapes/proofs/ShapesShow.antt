@@ -16,7 +16,8 @@ use Rattle.prettyless_alloc.proofs.ShownItems.{text_shows, space_shows, line_sho
 use Rattle.prettyless_alloc.proofs.ShownItems.{intersperse_shows, punctuated_shows, marks_stand_in_gaps}
 use Rattle.prettyless_shapes.specs.Items.{ShowsAll, ShowsBlock, ShowsBoth, ShowsMore, ShowsSame, ShowsList, mark_items, edge_item}
 use Rattle.prettyless_shapes.specs.Items.{trail_items, member_items, list_items}
-use Rattle.prettyless_shapes.specs.Shapes.{gapped, block, hanging, remarked, late_remarked, edge, gap_between, trail, members, inside, list}
+use Rattle.prettyless_shapes.specs.Shapes.{gapped, block, hanging, commented, late_commented, edge, gap_between, trail, members, inside}
+use Rattle.prettyless_shapes.specs.Shapes.{list}
 use Rattle.prettyless_shapes.specs.declared.lists.ListStyle.{ListStyle}
 
 -- ---- gaps
@@ -68,12 +69,12 @@ block_shows before x after columns first items last h i j =
 pub stacked_all_shows : (xs : List Tree) → ShowsAll (ended ∷ []) xs (intersperse HardLine xs)
 stacked_all_shows xs lists each = intersperse_shows HardLine xs (ended ∷ []) lists hard_line_shows each
 
--- ---- remarks
+-- ---- comments
 
-pub remarked_shows : (x : Tree) (s : List ℕ) → ShowsMore x (spaced ∷ (text_items s ++ ended ∷ [])) (remarked x s)
-remarked_shows x s xs h =
+pub commented_shows : (x : Tree) (s : List ℕ) → ShowsMore x (spaced ∷ (text_items s ++ ended ∷ [])) (commented x s)
+commented_shows x s xs h =
     let front = gapped_shows x space (text s) (spaced ∷ []) space_shows xs (text_items s) h (text_shows s) in
-    subst (shows (remarked x s)) (append_assoc xs (spaced ∷ text_items s) (ended ∷ []))
+    subst (shows (commented x s)) (append_assoc xs (spaced ∷ text_items s) (ended ∷ []))
     (append_shows (gapped x space (text s)) HardLine (xs ++ (spaced ∷ text_items s)) (ended ∷ []) front hard_line_shows)
 
 -- a text is not late
@@ -81,11 +82,11 @@ text_is_not_late : (s : List ℕ) → NoneIsLate (text_items s)
 text_is_not_late [] = tt
 text_is_not_late (b ∷ bs) = tt
 
-pub late_remarked_shows : (x : Tree) (s : List ℕ) → ShowsMore x (Late spaced ∷ map Late (text_items s)) (late_remarked x s)
-late_remarked_shows x s xs h =
-    let remark = append_shows space (text s) (spaced ∷ []) (text_items s) space_shows (text_shows s) in
+pub late_commented_shows : (x : Tree) (s : List ℕ) → ShowsMore x (Late spaced ∷ map Late (text_items s)) (late_commented x s)
+late_commented_shows x s xs h =
+    let comment = append_shows space (text s) (spaced ∷ []) (text_items s) space_shows (text_shows s) in
     append_shows x (LineSuffix (append space (text s))) xs (Late spaced ∷ map Late (text_items s)) h
-    (line_suffix_shows (append space (text s)) (spaced ∷ text_items s) remark (text_is_not_late s))
+    (line_suffix_shows (append space (text s)) (spaced ∷ text_items s) comment (text_is_not_late s))
 
 -- ---- lists
 

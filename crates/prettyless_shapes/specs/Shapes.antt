@@ -20,13 +20,13 @@ hanging x y columns = append x (group (nest (pos columns) (append line y)))
 abbrev pub block : Tree → Tree → Tree → ℕ → Tree
 block before x after columns = gapped (append before (nest (pos columns) (append HardLine x))) HardLine after
 
--- a tree, a space, a remark and a line end
-abbrev pub remarked : Tree → List ℕ → Tree
-remarked x remark = append (gapped x space (text remark)) HardLine
+-- a tree, a space, a comment and a line end
+abbrev pub commented : Tree → List ℕ → Tree
+commented x comment = append (gapped x space (text comment)) HardLine
 
--- a tree, and a space and a remark that are put off to the end of the line
-abbrev pub late_remarked : Tree → List ℕ → Tree
-late_remarked x remark = append x (LineSuffix (append space (text remark)))
+-- a tree, and a space and a comment that are put off to the end of the line
+abbrev pub late_commented : Tree → List ℕ → Tree
+late_commented x comment = append x (LineSuffix (append space (text comment)))
 
 -- ---- lists
 

@@ -5,14 +5,14 @@
 //! and `docs` are both. Beside each is its layout, at any width where none is named.
 #![tactic(auto)]
 
+mod comments;
 mod gaps;
 mod indents;
 mod lists;
-mod remarks;
 mod texts;
 
+pub use comments::{with_comment, with_late_comment};
 pub use gaps::{ended, joined, lined, spaced, stacked, stacked_all};
 pub use indents::{block, broken, grouped, hanging, indented};
 pub use lists::{ListStyle, list};
-pub use remarks::{with_late_remark, with_remark};
 pub use texts::{nil, text};

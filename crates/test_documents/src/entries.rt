@@ -5,16 +5,16 @@ use std::alloc::{AllocError, Global};
 use std::mem;
 use std::test::Fail;
 
-fn setting(alloc: Global, name: &str, value: &str, remark: &str) -> Result<Entry, AllocError> {
-    let remark = if remark.is_empty() {
+fn setting(alloc: Global, name: &str, value: &str, comment: &str) -> Result<Entry, AllocError> {
+    let comment = if comment.is_empty() {
         None
     } else {
-        Some(String::from_str(alloc, remark)?)
+        Some(String::from_str(alloc, comment)?)
     };
     Ok(Entry::Setting(Setting {
         name: String::from_str(alloc, name)?,
         value: String::from_str(alloc, value)?,
-        remark,
+        comment,
     }))
 }
 
@@ -45,17 +45,17 @@ fn read_word(alloc: Global, at: &mut Reading, word: &str) -> Result<(), AllocErr
     Ok(())
 }
 
-fn read_remark(alloc: Global, at: &mut Reading, remark: &str) -> Result<(), AllocError> {
-    let remark = format!(in alloc; "# {remark}")?;
+fn read_comment(alloc: Global, at: &mut Reading, comment: &str) -> Result<(), AllocError> {
+    let comment = format!(in alloc; "# {comment}")?;
     if let Some(Entry::Setting(last)) = at.entries.pop() {
         let (name, value) = (last.name.as_str(), last.value.as_str());
-        let entry = setting(alloc, name, value, remark.as_str())?;
+        let entry = setting(alloc, name, value, comment.as_str())?;
         at.entries.push(entry)?;
     }
     Ok(())
 }
 
-/// The entries that a layout is read as. A remark goes up to the end of its line.
+/// The entries that a layout is read as. A comment goes up to the end of its line.
 fn read(alloc: Global, layout: &str) -> Result<Vec<Entry>, AllocError> {
     let mut at = Reading {
         open: Vec::new(alloc),
@@ -63,12 +63,12 @@ fn read(alloc: Global, layout: &str) -> Result<Vec<Entry>, AllocError> {
         name: String::new(alloc),
     };
     for line in layout.lines() {
-        let (code, remark) = line.split_once("# ").unwrap_or((line, ""));
+        let (code, comment) = line.split_once("# ").unwrap_or((line, ""));
         for word in code.split_whitespace() {
             read_word(alloc, &mut at, word)?;
         }
-        if !remark.is_empty() {
-            read_remark(alloc, &mut at, remark)?;
+        if !comment.is_empty() {
+            read_comment(alloc, &mut at, comment)?;
         }
     }
     Ok(at.entries)

@@ -3,7 +3,7 @@ use std::alloc::Global;
 use std::process::Abort;
 use std::test::Fail;
 use toml_lexemes::Lexeme::{
-    CloseArray, CloseTable, Comma, Equals, LineEnd, OpenArray, OpenTable, Remark, String, Word,
+    CloseArray, CloseTable, Comma, Comment, Equals, LineEnd, OpenArray, OpenTable, String, Word,
 };
 use toml_lexemes::{Lexeme, Spaced, SpacedLexer, lexemes};
 
@@ -12,8 +12,8 @@ type Row<'a> = (&'a str, &'a [Lexeme<'a>]);
 #[rattlefmt::skip]
 const ROWS: &[Row<'static>] = &[
     // All constructs of TOML.
-    ("# The project's file.\r\n[project]\n", &[Remark("# The project's file."), LineEnd, OpenArray, Word("project"), CloseArray, LineEnd]),
-    ("name = \"to\\\"ml\" # \"quoted\"\n", &[Word("name"), Equals, String("\"to\\\"ml\""), Remark("# \"quoted\""), LineEnd]),
+    ("# The project's file.\r\n[project]\n", &[Comment("# The project's file."), LineEnd, OpenArray, Word("project"), CloseArray, LineEnd]),
+    ("name = \"to\\\"ml\" # \"quoted\"\n", &[Word("name"), Equals, String("\"to\\\"ml\""), Comment("# \"quoted\""), LineEnd]),
     (
         "\t'a b'.\"c\".d='C:\\dir\\'\r\n",
         &[String("'a b'"), Word("."), String("\"c\""), Word(".d"), Equals, String("'C:\\dir\\'"), LineEnd],
@@ -24,7 +24,7 @@ const ROWS: &[Row<'static>] = &[
         &[
             OpenArray, String("\"\""), Comma, String("''"), Comma, String("\"\"\"\"\"\""), Comma,
             OpenTable, Word("x"), Equals, Word("-1"), Comma, Word("y"), Equals, OpenArray, Word("0x1F"), CloseArray, CloseTable,
-            Comma, Remark("# none"), LineEnd, CloseArray,
+            Comma, Comment("# none"), LineEnd, CloseArray,
         ],
     ),
     ("[[tool.x]]\n", &[OpenArray, OpenArray, Word("tool.x"), CloseArray, CloseArray, LineEnd]),
@@ -33,7 +33,7 @@ const ROWS: &[Row<'static>] = &[
         &[Word("text"), Equals, String("\"\"\"\nSay \"\" and \\\"\"\" \\\\ \"\"\"\"\""), LineEnd],
     ),
     ("raw = '''it''s \\'''\n", &[Word("raw"), Equals, String("'''it''s \\'''"), LineEnd]),
-    // Strings that nothing closes, and remarks with a CR.
+    // Strings that nothing closes, and comments with a CR.
     ("", &[]),
     ("\"open\\\nb", &[String("\"open\\"), LineEnd, Word("b")]),
     ("'open\r\n", &[String("'open\r"), LineEnd]),
@@ -44,8 +44,8 @@ const ROWS: &[Row<'static>] = &[
         "\"a\"b'c'é\"\"é",
         &[String("\"a\""), Word("b"), String("'c'"), Word("é"), String("\"\""), Word("é")],
     ),
-    ("#a\rb\r", &[Remark("#a\rb\r")]),
-    ("#\r\r\n\r=", &[Remark("#\r"), LineEnd, Equals]),
+    ("#a\rb\r", &[Comment("#a\rb\r")]),
+    ("#\r\r\n\r=", &[Comment("#\r"), LineEnd, Equals]),
 ];
 
 fn compare(rt: &impl Abort, memory: Global, (text, expected): Row<'_>) -> Result<(), Fail> {

@@ -5,7 +5,7 @@ use std::test::Fail;
 use toml_grammar::{Expected, Fault, fault_of};
 use toml_lexemes::Lexeme;
 use toml_lexemes::Lexeme::{
-    CloseArray, CloseTable, Comma, Equals, LineEnd, OpenArray, Remark, String, Word,
+    CloseArray, CloseTable, Comma, Comment, Equals, LineEnd, OpenArray, String, Word,
 };
 
 // A text, the offset of its fault, what was expected there, and what stands there.
@@ -14,7 +14,7 @@ type Row<'a> = (&'a str, usize, Expected, Option<Lexeme<'a>>);
 #[rattlefmt::skip]
 const ROWS: &[Row<'static>] = &[
     // Keys and headers.
-    ("key = # nothing", 6, Expected::Value, Some(Remark("# nothing"))),
+    ("key = # nothing", 6, Expected::Value, Some(Comment("# nothing"))),
     ("a = \"Tom\" b = 1", 10, Expected::LineEnd, Some(Word("b"))),
     ("= 1", 0, Expected::Line, Some(Equals)),
     ("a b = 1", 2, Expected::DotOrEquals, Some(Word("b"))),
@@ -36,7 +36,7 @@ const ROWS: &[Row<'static>] = &[
     ("a = [1,", 7, Expected::ValueOrBracket, None),
     ("a = {", 5, Expected::KeyOrBrace, None),
     ("a = { b = 1, }", 13, Expected::Key, Some(CloseTable)),
-    ("a = { b = 1 # c\n}", 12, Expected::CommaOrBrace, Some(Remark("# c"))),
+    ("a = { b = 1 # c\n}", 12, Expected::CommaOrBrace, Some(Comment("# c"))),
     ("a = [{ b = 1\n}]", 12, Expected::CommaOrBrace, Some(LineEnd)),
     ("a = [1}", 6, Expected::CommaOrBracket, Some(CloseTable)),
     ("a = 1979-05-27  07:32:00", 16, Expected::LineEnd, Some(Word("07:32:00"))),
@@ -44,7 +44,7 @@ const ROWS: &[Row<'static>] = &[
     ("a = [1979-05-27\n07:32:00]", 16, Expected::CommaOrBracket, Some(Word("07:32:00"))),
     ("a = yes", 4, Expected::Value, Some(Word("yes"))),
     ("a = \"b", 4, Expected::String, Some(String("\"b"))),
-    ("a = 1 # \u{7}", 6, Expected::Remark, Some(Remark("# \u{7}"))),
+    ("a = 1 # \u{7}", 6, Expected::Comment, Some(Comment("# \u{7}"))),
     ("a = 1 \r", 7, Expected::LineFeed, None),
     ("a\r= 1", 2, Expected::LineFeed, Some(Equals)),
     ("a = 1\r\r\n", 7, Expected::LineFeed, Some(LineEnd)),

@@ -1,6 +1,6 @@
-//! Strings and remarks of TOML.
+//! Strings and comments of TOML.
 use std::process::Abort;
-use toml_words::{is_key_string, is_remark, is_string};
+use toml_grammar::{is_comment, is_key_string, is_string};
 
 // Of one line, as keys may be too.
 #[rattlefmt::skip]
@@ -40,14 +40,14 @@ const LONG_STRINGS: &[&str] = &[
     "'''\ttab\r\n'''",
 ];
 
-const REMARKS: &[&str] = &[
+const COMMENTS: &[&str] = &[
     "# This is a full-line comment",
     "#",
     "#\ttab é \u{80} ~",
     "# a \\ \" '",
 ];
 
-const NO_REMARKS: &[&str] = &[
+const NO_COMMENTS: &[&str] = &[
     "#\r", "#a\u{7F}", "#\0", "#\u{8}", "#\u{1F}", "#\n", "a # b", "",
 ];
 
@@ -70,14 +70,14 @@ fn strings_are_of_one_line_or_of_several(rt: HostRuntime) {
     compare_strings(&rt, NO_STRINGS, false, false);
 }
 
-fn compare_remarks(rt: &impl Abort, texts: &[&str], expected: bool) {
+fn compare_comments(rt: &impl Abort, texts: &[&str], expected: bool) {
     for text in texts {
-        check(rt, is_remark(text) == expected, text);
+        check(rt, is_comment(text) == expected, text);
     }
 }
 
 #[test]
-fn remarks_hold_no_control_characters(rt: HostRuntime) {
-    compare_remarks(&rt, REMARKS, true);
-    compare_remarks(&rt, NO_REMARKS, false);
+fn comments_hold_no_control_characters(rt: HostRuntime) {
+    compare_comments(&rt, COMMENTS, true);
+    compare_comments(&rt, NO_COMMENTS, false);
 }

@@ -20,7 +20,7 @@ const NO_JSON: &[&str] = &[
 #[rattlefmt::skip]
 const TOML: &[&str] = &[
     "",
-    // The first example of TOML's page, with remarks, headers and values of most kinds.
+    // The first example of TOML's page, with comments, headers and values of most kinds.
     "# This is a TOML document\n\ntitle = \"TOML Example\"\n\n[owner]\nname = \"Tom Preston-Werner\"\n\
      dob = 1979-05-27T07:32:00-08:00\n\n[database]\nenabled = true\nports = [ 8000, 8001, 8002 ]\n\
      data = [ [\"delta\", \"phi\"], [3.14] ]\ntemp_targets = { cpu = 79.5, case = 72.0 }\n\n[servers]\n\n\

@@ -1,6 +1,6 @@
 //! Words of TOML: keys, numbers, dates and times. Most are examples of its specification, or a step beside them.
 use std::process::Abort;
-use toml_words::{is_date, is_time, is_value, key_word};
+use toml_grammar::{is_date, is_time, is_value, key_word};
 
 // A word, whether a part of a key is due before it, and whether one is after it. There is none after what is no such word.
 #[rattlefmt::skip]

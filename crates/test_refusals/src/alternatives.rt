@@ -15,8 +15,8 @@ fn lines<'a, D: DocPlace<'a>>(
     )
 }
 
-// A word and a remark.
-fn remarked<'a, D: DocPlace<'a>>(place: &'a D) -> Result<DocBuilder<'a, D>, BuildError> {
+// A word and a comment.
+fn commented<'a, D: DocPlace<'a>>(place: &'a D) -> Result<DocBuilder<'a, D>, BuildError> {
     joined(text(place, "inner"), put_off(place, " // s"))
 }
 
@@ -25,8 +25,8 @@ pub fn too_wide<'a, D: DocPlace<'a>>(place: &'a D) -> Result<D::Doc, BuildError>
     either(lines(place, "long long long"), lines(place, "short"))?.into_doc()
 }
 
-/// A remark stands before the branches, and one in each. The first is too wide for 5 columns.
-pub fn remarks<'a, D: DocPlace<'a>>(place: &'a D) -> Result<D::Doc, BuildError> {
+/// A comment stands before the branches, and one in each. The first is too wide for 5 columns.
+pub fn comments<'a, D: DocPlace<'a>>(place: &'a D) -> Result<D::Doc, BuildError> {
     let front = joined(text(place, "a"), put_off(place, " // 1"));
     let first = joined(put_off(place, " // 3"), text(place, "6666666"));
     let second = joined(put_off(place, " // 4"), text(place, "77"));
@@ -40,16 +40,16 @@ pub fn ending_line<'a, D: DocPlace<'a>>(place: &'a D) -> Result<D::Doc, BuildErr
     joined(branches, text(place, "b"))?.nest(2)?.into_doc()
 }
 
-/// A branch with a remark fits 10 columns, and stands in one that does not.
+/// A branch with a comment fits 10 columns, and stands in one that does not.
 pub fn rejected_after<'a, D: DocPlace<'a>>(place: &'a D) -> Result<D::Doc, BuildError> {
-    let inner = either(remarked(place), text(place, "inner fallback"));
+    let inner = either(commented(place), text(place, "inner fallback"));
     let outer = joined(inner, text(place, " long overflow"));
     let branches = either(outer, text(place, "outer fallback"));
     joined(put_off(place, " // caller"), branches)?.into_doc()
 }
 
-/// A branch with a remark stands in one, and both fit.
+/// A branch with a comment stands in one, and both fit.
 pub fn both_kept<'a, D: DocPlace<'a>>(place: &'a D) -> Result<D::Doc, BuildError> {
-    let inner = either(remarked(place), text(place, "q"));
+    let inner = either(commented(place), text(place, "q"));
     either(joined(text(place, "p"), inner), text(place, "r"))?.into_doc()
 }

@@ -1,5 +1,5 @@
 //! The documents, by the calls that ask for memory more than once, or that make one document of many. And those of two branches.
-use crate::alternatives::{both_kept, ending_line, rejected_after, remarks, too_wide};
+use crate::alternatives::{both_kept, comments, ending_line, rejected_after, too_wide};
 use crate::parts::{joined, put_off, text};
 use prettyless::prelude::*;
 use prettyless::text::{BuildError, Text};
@@ -32,7 +32,7 @@ pub enum Kind {
     Printed,
     Suffixes,
     TooWide,
-    Remarks,
+    Comments,
     EndingLine,
     RejectedAfter,
     BothKept,
@@ -48,7 +48,7 @@ pub const ALL: &[Kind] = &[
     Kind::Owned,
     Kind::Printed,
     Kind::TooWide,
-    Kind::Remarks,
+    Kind::Comments,
     Kind::EndingLine,
     Kind::RejectedAfter,
     Kind::BothKept,
@@ -115,7 +115,7 @@ impl Kind {
             Kind::Printed => "what a value prints",
             Kind::Suffixes => "a suffix in a suffix",
             Kind::TooWide => "a branch that is too wide",
-            Kind::Remarks => "branches with suffixes",
+            Kind::Comments => "branches with suffixes",
             Kind::EndingLine => "a branch that ends its line",
             Kind::RejectedAfter => "a branch in one that is too wide",
             Kind::BothKept => "a branch in one that fits",
@@ -128,7 +128,7 @@ impl Kind {
         match self {
             Kind::EndingLine => 1,
             Kind::Reflowed => 2,
-            Kind::Interspersed | Kind::Remarks => 5,
+            Kind::Interspersed | Kind::Comments => 5,
             Kind::TooWide | Kind::RejectedAfter => 10,
             _ => 80,
         }
@@ -145,7 +145,7 @@ impl Kind {
             Kind::Printed => printed(place),
             Kind::Suffixes => suffixes(place),
             Kind::TooWide => too_wide(place),
-            Kind::Remarks => remarks(place),
+            Kind::Comments => comments(place),
             Kind::EndingLine => ending_line(place),
             Kind::RejectedAfter => rejected_after(place),
             Kind::BothKept => both_kept(place),

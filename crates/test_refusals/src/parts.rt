@@ -14,9 +14,9 @@ pub fn text<'a, D: DocPlace<'a>>(
 /// A text that waits for the end of its line.
 pub fn put_off<'a, D: DocPlace<'a>>(
     place: &'a D,
-    remark: &'a str,
+    comment: &'a str,
 ) -> Result<DocBuilder<'a, D>, BuildError> {
-    text(place, remark)?.as_line_suffix()
+    text(place, comment)?.as_line_suffix()
 }
 
 /// One after the other.

@@ -13,10 +13,10 @@ use Rattle.toml_lexemes.proofs.Following.{blank_may_follow, first_byte_decides}
 use Rattle.toml_lexemes.proofs.Gaps.{IsWellSpaced-lexemes, lexemes_alone}
 use Rattle.toml_lexemes.proofs.Joined.{first_spaced}
 use Rattle.toml_lexemes.proofs.Kept.{same_lexemes}
-use Rattle.toml_statements.specs.Statements.{none_collected, statements, statements_of, with_lexemes}
+use Rattle.toml_lexemes.specs.Statements.{none_collected, statements, statements_of, with_lexemes}
 use Rattle.toml_grammar.specs.Sorts as sort
 use Rattle.toml_grammar.specs.Sorts.{sort_by, sort_of}
-use Rattle.toml_formatter.specs.Alignment.{aligned_from, first_standing, is_at_end, is_comment, is_comment_sort, most_here, moved_by}
+use Rattle.toml_formatter.specs.Alignment.{aligned_from, first_standing, is_at_end, is_comment_lexeme, is_comment_sort, most_here, moved_by}
 use Rattle.toml_formatter.specs.Alignment.{moved_gap, standing_past, with_aligned_comments}
 use Rattle.toml_formatter.specs.declared.standing.Standing.{Standing}
 
@@ -56,7 +56,7 @@ blank_byte x h = cases (x == 10) refl
 -- a comment begins with `#`
 hash_alone : (a b c d e f g h q : Bool) → is_comment_sort
     (cond a sort.open_array (cond b sort.close_array (cond c sort.open_table (cond d sort.close_table (cond e sort.comma
-    (cond f sort.equals (cond g sort.line_end (cond h sort.remark (cond q sort.string sort.word))))))))) ≡ true → h ≡ true
+    (cond f sort.equals (cond g sort.line_end (cond h sort.comment (cond q sort.string sort.word))))))))) ≡ true → h ≡ true
 hash_alone true b c d e f g h q p = absurd (cc)
 hash_alone false true c d e f g h q p = absurd (cc)
 hash_alone false false true d e f g h q p = absurd (cc)
@@ -128,7 +128,7 @@ follows_next st p ps s rest other alone gap h = go (is_at_end st p) refl
     go : (b : Bool) → is_at_end st p ≡ b
         → MayFollow s (moved_gap (if b then Some (most_here st ps - st.reach.columns) else None) p.gap ++ (p.lexeme ++ other))
     go true e =
-        follows_moved s p.gap p.lexeme rest _ (and_parts (is_comment p) st.reach.holds e).0 gap h
+        follows_moved s p.gap p.lexeme rest _ (and_parts (is_comment_lexeme p) st.reach.holds e).0 gap h
     go false e = follows_gap s p.gap p.lexeme rest other alone h
 
 -- ---- all lexemes

@@ -10,7 +10,7 @@ use Rattle.toml_lexemes.specs.declared.lexeme.Lexeme.{Lexeme}
 use Rattle.toml_lexemes.specs.declared.lexeme.Lexeme.TheVariants as lexeme
 use Rattle.toml_grammar.specs.Sorts.{sort_of}
 use Rattle.toml_grammar.specs.Nesting.{depth_after, max_brackets, nest_too_deep}
-use Rattle.toml_grammar.proofs.Depths.{depth_step, remark_depth, string_depth, word_depth}
+use Rattle.toml_grammar.proofs.Depths.{depth_step, comment_depth, string_depth, word_depth}
 use Rattle.toml_formatter.specs.Depths.{TakesWithin}
 use Rattle.toml_formatter.specs.Errors.{IsFormatMemory, IsRefusalWithin, IsRefusalOf}
 use Rattle.toml_formatter.specs.Kinds.{is_closing, is_opening, IsPart}
@@ -28,7 +28,7 @@ opening_depth lexeme.CloseTable e n = absurd (cc)
 opening_depth lexeme.Comma e n = absurd (cc)
 opening_depth lexeme.Equals e n = absurd (cc)
 opening_depth lexeme.LineEnd e n = absurd (cc)
-opening_depth (lexeme.Remark s) e n = absurd (cc)
+opening_depth (lexeme.Comment s) e n = absurd (cc)
 opening_depth (lexeme.String s) e n = absurd (cc)
 opening_depth (lexeme.Word s) e n = absurd (cc)
 
@@ -40,7 +40,7 @@ closing_depth lexeme.OpenTable e n = absurd (cc)
 closing_depth lexeme.Comma e n = absurd (cc)
 closing_depth lexeme.Equals e n = absurd (cc)
 closing_depth lexeme.LineEnd e n = absurd (cc)
-closing_depth (lexeme.Remark s) e n = absurd (cc)
+closing_depth (lexeme.Comment s) e n = absurd (cc)
 closing_depth (lexeme.String s) e n = absurd (cc)
 closing_depth (lexeme.Word s) e n = absurd (cc)
 
@@ -53,7 +53,7 @@ plain_depth lexeme.CloseTable named e f n = absurd (cc)
 plain_depth lexeme.Comma named e f n = refl
 plain_depth lexeme.Equals named e f n = refl
 plain_depth lexeme.LineEnd named e f n = refl
-plain_depth (lexeme.Remark s) named e f n = remark_depth s.now named n
+plain_depth (lexeme.Comment s) named e f n = comment_depth s.now named n
 plain_depth (lexeme.String s) named e f n = string_depth s.now named n
 plain_depth (lexeme.Word s) named e f n = word_depth s.now named n
 
@@ -78,7 +78,7 @@ part_within x named part e depth ss = plain_within x named e (no_closing x part)
     no_closing lexeme.Comma part = refl
     no_closing lexeme.Equals part = refl
     no_closing lexeme.LineEnd part = refl
-    no_closing (lexeme.Remark s) part = refl
+    no_closing (lexeme.Comment s) part = refl
     no_closing (lexeme.String s) part = refl
     no_closing (lexeme.Word s) part = refl
 

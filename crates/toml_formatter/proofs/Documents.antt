@@ -6,9 +6,9 @@ use Rattle.prettyless_model.specs.Shows as shown
 use Rattle.prettyless_model.specs.Shows.{Item, AnyLine, LineEnd, ended, more, shows}
 use Rattle.toml_lexemes.specs.Bytes.{line_feed}
 use Rattle.toml_lexemes.specs.Lexemes.{toml_lexemes_of}
-use Rattle.toml_statements.specs.Statements.{Collected, none_collected, line_ended, with_lexemes, statements_of, statements}
-use Rattle.toml_statements.specs.Shown.{Stage, first_stage, IsReady, AreRead, least_between}
-use Rattle.toml_statements.proofs.LineEnds.{ended_twice, statements_ended}
+use Rattle.toml_lexemes.specs.Statements.{Collected, none_collected, line_ended, with_lexemes, statements_of, statements}
+use Rattle.toml_lexemes.specs.Shown.{Stage, first_stage, IsReady, AreRead, least_between}
+use Rattle.toml_lexemes.proofs.LineEnds.{ended_twice, statements_ended}
 use Rattle.toml_formatter.specs.Lines.{directly_after, before_next, StatementRead, TakesStatement, after_line_of, IsAtLine, DocumentRead}
 use Rattle.toml_formatter.specs.Lines.{IsDocument, HasStatements}
 use Rattle.toml_formatter.proofs.Stages.{read_both, with_both}

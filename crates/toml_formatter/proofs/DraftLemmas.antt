@@ -8,23 +8,24 @@ use Rattle.prettyless.specs.Counted as counted
 use Rattle.prettyless.specs.Tree.{Tree, Nil}
 use Rattle.prettyless.specs.Trees.{ref_tree}
 use Rattle.prettyless_pointers.specs.declared.arena.RefDoc.{RefDoc}
-use Rattle.toml_lexemes.specs.Bytes.{comma, hash, head, is_sign, is_blank, is_quote, ends_word, line_feed}
+use Rattle.toml_lexemes.specs.Bytes.{comma, dot, hash, head, is_sign, is_blank, is_quote, ends_word, ends_with_dot, line_feed}
 use Rattle.toml_lexemes.specs.View.{toml_text_of, HasTomlKind}
 use Rattle.toml_lexemes.specs.declared.lexeme.Lexeme.{Lexeme}
 use Rattle.toml_lexemes.specs.declared.lexeme.Lexeme.TheVariants as lexeme
 use Rattle.toml_grammar.specs.Sorts as sort
 use Rattle.toml_grammar.specs.Sorts.{Sort, sort_of}
-use Rattle.toml_grammar.proofs.Allowed.{sort_remark, sort_string}
-use Rattle.toml_statements.specs.Statements.{trimmed}
-use Rattle.toml_formatter.specs.Documents.{end_after_comma, after_remarks, after_rest, closed_end, comma_kept, document_from, Draft, End}
+use Rattle.toml_grammar.proofs.Allowed.{sort_comment, sort_string}
+use Rattle.toml_lexemes.specs.Statements.{trimmed}
+use Rattle.toml_formatter.specs.Documents.{end_after_comma, after_comments, after_rest, closed_end, comma_kept, document_from, Draft, End}
 use Rattle.toml_formatter.specs.Documents.{ends_item}
 use Rattle.toml_formatter.specs.Documents.{entry_with_comma, is_array, is_some, Level, level_end, levels_with, lexeme_tree, list_tree}
-use Rattle.toml_formatter.specs.Documents.{new_level, new_statement, part_end, Remarked, remark_tree, remarks_tree, separated, trailed_end}
-use Rattle.toml_formatter.specs.Documents.{draft_with, unclosed_tree, level_with_comma, with_line_end, with_part, with_remark}
+use Rattle.toml_formatter.specs.Documents.{new_level, new_statement, part_end, Commented, comment_tree, comments_tree, separated}
+use Rattle.toml_formatter.specs.Documents.{trailed_end}
+use Rattle.toml_formatter.specs.Documents.{draft_with, unclosed_tree, level_with_comma, with_line_end, with_part, with_comment}
 use Rattle.toml_formatter.specs.Documents.{draft_with_statement}
 use Rattle.toml_formatter.specs.Drafts.{AreAround, line_end, ReadsFirst, ReadsOn, ReadsPart, ReadsStatement, settled_end, Stands}
-use Rattle.toml_formatter.specs.Gaps.{gap_before_part, gap_before_comma, gap_before_remark}
-use Rattle.toml_formatter.specs.Kinds.{is_closing, is_opening, IsPart, last_after, last_after_sort, sort_for}
+use Rattle.toml_formatter.specs.Gaps.{gap_before_part, gap_before_text, gap_before_comma, gap_before_comment}
+use Rattle.toml_formatter.specs.Kinds.{is_closing, is_opening, IsPart, last_after, last_after_sort, last_after_text, sort_for}
 use Rattle.toml_formatter.specs.Numbers.{opened_kind}
 use Rattle.toml_formatter.specs.Lexing.{ClosesNext}
 use Rattle.toml_formatter.specs.Lines.{begun, may_hold}
@@ -55,7 +56,7 @@ sort_word (x ∷ xs) e =
     let l = or_parts (x == 91) (x == 93) k.0 in
     λ j. cond (l.0 j) sort.open_array (cond (l.1 j) sort.close_array (cond (k.1 j) sort.open_table
     (cond (h.1 j) sort.close_table (cond (g.1 j) sort.comma (cond (f.1 j) sort.equals (cond (b.1 j) sort.line_end
-    (cond (a.1 j) sort.remark (cond (c.1 j) sort.string sort.word))))))))
+    (cond (a.1 j) sort.comment (cond (c.1 j) sort.string sort.word))))))))
 
 -- the sort that a lexeme has by its first byte
 pub sort_known : (x : Lexeme) → HasTomlKind x → sort_of (toml_text_of x) ≡ sort_for x
@@ -66,11 +67,11 @@ sort_known lexeme.CloseTable named = refl
 sort_known lexeme.Comma named = refl
 sort_known lexeme.Equals named = refl
 sort_known lexeme.LineEnd named = refl
-sort_known (lexeme.Remark s) named = sort_remark s.now named
+sort_known (lexeme.Comment s) named = sort_comment s.now named
 sort_known (lexeme.String s) named = sort_string s.now named
 sort_known (lexeme.Word s) named = sort_word s.now named
 
-last_known : (x : Lexeme) → IsPart x → last_after x ≡ last_after_sort (sort_for x)
+last_known : (x : Lexeme) → IsPart x → last_after x ≡ last_after_sort (sort_for x) (ends_with_dot (toml_text_of x))
 last_known lexeme.OpenArray part = refl
 last_known lexeme.CloseArray part = absurd part
 last_known lexeme.OpenTable part = refl
@@ -78,13 +79,17 @@ last_known lexeme.CloseTable part = absurd part
 last_known lexeme.Comma part = absurd part
 last_known lexeme.Equals part = refl
 last_known lexeme.LineEnd part = absurd part
-last_known (lexeme.Remark s) part = absurd part
+last_known (lexeme.Comment s) part = absurd part
 last_known (lexeme.String s) part = refl
 last_known (lexeme.Word s) part = refl
 
--- what closes no list and is no comma, remark or line end is a part
+pub part_last : (x : Lexeme) → HasTomlKind x → IsPart x → last_after x ≡ last_after_text (toml_text_of x)
+part_last x named part =
+    last_known x part ∙ ap (λ (k : Sort). last_after_sort k (ends_with_dot (toml_text_of x))) (sym (sort_known x named))
+
+-- what closes no list and is no comma, comment or line end is a part
 pub list_part : (x : Lexeme) → is_closing x ≡ false → (x ≡ lexeme.LineEnd → ⊥) → (x ≡ lexeme.Comma → ⊥)
-    → ((r : Bor (List ℕ)) → x ≡ lexeme.Remark r → ⊥) → IsPart x
+    → ((r : Bor (List ℕ)) → x ≡ lexeme.Comment r → ⊥) → IsPart x
 list_part lexeme.OpenArray e n p q = tt
 list_part lexeme.OpenTable e n p q = tt
 list_part lexeme.Equals e n p q = tt
@@ -94,7 +99,7 @@ list_part lexeme.CloseArray e n p q = absurd (cc)
 list_part lexeme.CloseTable e n p q = absurd (cc)
 list_part lexeme.Comma e n p q = absurd (p refl)
 list_part lexeme.LineEnd e n p q = absurd (n refl)
-list_part (lexeme.Remark s) e n p q = absurd (q s refl)
+list_part (lexeme.Comment s) e n p q = absurd (q s refl)
 
 -- ---- what waits
 
@@ -103,8 +108,8 @@ pub new_stands : (doc : RefDoc) (kind : Kind) (opening : List ℕ) → ref_tree 
 new_stands doc kind opening e = record {
   end = λ i. record { tree = e i; last = last.Start };
   comma = refl;
-  remarked = refl;
-  remarks = λ p. absurd (cc);
+  commented = refl;
+  comments = λ p. absurd (cc);
   broken = refl;
   blank = refl;
 }
@@ -114,8 +119,8 @@ pub line_end_stands : (lv : Level) (line : Line) → Stands lv line
 line_end_stands lv line h = record {
   end = h.end;
   comma = h.comma;
-  remarked = h.remarked;
-  remarks = h.remarks;
+  commented = h.commented;
+  comments = h.comments;
   broken = refl;
   blank = h.broken;
 }
@@ -132,31 +137,31 @@ comma_end line doc x g waits made gap is =
     λ i. record { tree = tree i; last = last.Comma } in
     all ∙ ap (λ (b : Bool). end_after_comma b (line_end line)) (sym waits)
 
--- the remarks that wait in their place
-pub remarks_end : (line : Line) (doc : RefDoc) → line.is_remarked ≡ true
-    → ref_tree doc ≡ append (ref_tree line.doc) (ref_tree line.remarks)
-    → line_end (record line { doc = doc; last = last.Remark; is_remarked = false })
-    ≡ after_remarks line.is_remarked (ref_tree line.remarks) (line_end line)
-remarks_end line doc waits made =
-    let all : line_end (record line { doc = doc; last = last.Remark; is_remarked = false })
-    ≡ after_remarks true (ref_tree line.remarks) (line_end line) =
-    λ i. record { tree = made i; last = last.Remark } in
-    all ∙ ap (λ (b : Bool). after_remarks b (ref_tree line.remarks) (line_end line)) (sym waits)
+-- the comments that wait in their place
+pub comments_end : (line : Line) (doc : RefDoc) → line.is_commented ≡ true
+    → ref_tree doc ≡ append (ref_tree line.doc) (ref_tree line.comments)
+    → line_end (record line { doc = doc; last = last.Comment; is_commented = false })
+    ≡ after_comments line.is_commented (ref_tree line.comments) (line_end line)
+comments_end line doc waits made =
+    let all : line_end (record line { doc = doc; last = last.Comment; is_commented = false })
+    ≡ after_comments true (ref_tree line.comments) (line_end line) =
+    λ i. record { tree = made i; last = last.Comment } in
+    all ∙ ap (λ (b : Bool). after_comments b (ref_tree line.comments) (line_end line)) (sym waits)
 
-after_same : (b c : Bool) (x y : Tree) (e : End) → b ≡ c → (b ≡ true → x ≡ y) → after_remarks b x e ≡ after_remarks c y e
-after_same false c x y e p h = ap (λ (z : Bool). after_remarks z y e) p
-after_same true c x y e p h = λ i. after_remarks (p i) (h refl i) e
+after_same : (b c : Bool) (x y : Tree) (e : End) → b ≡ c → (b ≡ true → x ≡ y) → after_comments b x e ≡ after_comments c y e
+after_same false c x y e p h = ap (λ (z : Bool). after_comments z y e) p
+after_same true c x y e p h = λ i. after_comments (p i) (h refl i) e
 
 -- a line with this comma, where what waits is put in its place
 pub settled_as : (lv : Level) (line : Line) (b c : Bool) → Stands lv line → b ≡ c
     → settled_end (record line { comma = b }) ≡ after_rest lv.kind (record lv.entry { comma = c }) (part_end lv)
 settled_as lv line b c h same =
-    let rs = lv.entry.remarks in
+    let rs = lv.entry.comments in
     let l = (part_end lv).last in
-    after_same line.is_remarked (is_some rs) (ref_tree line.remarks) (remarks_tree lv.kind l rs) (end_after_comma b
-    (line_end line)) h.remarked
-    (λ e. h.remarks e ∙ ap (λ (x : End). remarks_tree lv.kind x.last rs) h.end)
-    ∙ (λ i. after_remarks (is_some rs) (remarks_tree lv.kind l rs) (end_after_comma (same i) (h.end i)))
+    after_same line.is_commented (is_some rs) (ref_tree line.comments) (comments_tree lv.kind l rs) (end_after_comma b
+    (line_end line)) h.commented
+    (λ e. h.comments e ∙ ap (λ (x : End). comments_tree lv.kind x.last rs) h.end)
+    ∙ (λ i. after_comments (is_some rs) (comments_tree lv.kind l rs) (end_after_comma (same i) (h.end i)))
 
 pub settled_same : (lv : Level) (line : Line) → Stands lv line → settled_end line ≡ level_end lv
 settled_same lv line h = settled_as lv line line.comma lv.entry.comma h h.comma
@@ -164,13 +169,13 @@ settled_same lv line h = settled_as lv line line.comma lv.entry.comma h h.comma
 -- ---- steps of a line
 
 -- a line on which nothing waits, whose document is all of the level, and then a comma
-comma_new : (lv : Level) (line : Line) → line_end line ≡ level_end lv → line.is_remarked ≡ false
+comma_new : (lv : Level) (line : Line) → line_end line ≡ level_end lv → line.is_commented ≡ false
     → Stands (entry_with_comma true lv) (record line { comma = true; broken = false; blank = false })
-comma_new lv line e no_remarks = record {
+comma_new lv line e no_comments = record {
   end = e;
   comma = refl;
-  remarked = no_remarks;
-  remarks = λ p. absurd (clash p no_remarks);
+  commented = no_comments;
+  comments = λ p. absurd (clash p no_comments);
   broken = refl;
   blank = refl;
 }
@@ -180,8 +185,8 @@ comma_more : (lv : Level) (line : Line) → Stands lv line
 comma_more lv line h = record {
   end = h.end;
   comma = refl;
-  remarked = h.remarked;
-  remarks = h.remarks;
+  commented = h.commented;
+  comments = h.comments;
   broken = refl;
   blank = refl;
 }
@@ -202,85 +207,85 @@ comma_waits lv line h e =
 
 -- a comma after what was settled
 pub comma_follows : (lv : Level) (line settled : Line) → Stands lv line → (line.comma || may_hold line.last) ≡ true
-    → line_end settled ≡ settled_end line → settled.is_remarked ≡ false
+    → line_end settled ≡ settled_end line → settled.is_commented ≡ false
     → Stands (level_with_comma lv) (record settled { comma = true; broken = false; blank = false })
 comma_follows lv line settled h e is none =
     subst (λ (b : Bool). Stands (entry_with_comma b lv) (record settled { comma = true; broken = false; blank = false }))
     (sym (same_test lv line true h e)) (comma_new lv settled (is ∙ settled_same lv line h) none)
 
-no_remarks_tree : (kind : Kind) (l : Last) (rs : List Remarked) → is_some rs ≡ false → Nil ≡ remarks_tree kind l rs
-no_remarks_tree kind l [] e = refl
-no_remarks_tree kind l (r ∷ rs) e = absurd (cc)
+no_comments_tree : (kind : Kind) (l : Last) (rs : List Commented) → is_some rs ≡ false → Nil ≡ comments_tree kind l rs
+no_comments_tree kind l [] e = refl
+no_comments_tree kind l (r ∷ rs) e = absurd (cc)
 
--- the document of the remarks that wait, or nothing
-pub first_remarks : (lv : Level) (line : Line) (nil : Tree) → Stands lv line → line.is_remarked ≡ false → nil ≡ Nil
-    → nil ≡ remarks_tree lv.kind line.last lv.entry.remarks
-first_remarks lv line nil h none e = e ∙ no_remarks_tree lv.kind line.last lv.entry.remarks (sym h.remarked ∙ none)
+-- the document of the comments that wait, or nothing
+pub first_comments : (lv : Level) (line : Line) (nil : Tree) → Stands lv line → line.is_commented ≡ false → nil ≡ Nil
+    → nil ≡ comments_tree lv.kind line.last lv.entry.comments
+first_comments lv line nil h none e = e ∙ no_comments_tree lv.kind line.last lv.entry.comments (sym h.commented ∙ none)
 
--- one remark more
-pub remark_stands : (lv : Level) (line : Line) (kind : Kind) (s : List ℕ) (g : Gap) (front x : Tree) (doc : RefDoc) → lv.kind ≡ kind
+-- one comment more
+pub comment_stands : (lv : Level) (line : Line) (kind : Kind) (s : List ℕ) (g : Gap) (front x : Tree) (doc : RefDoc) → lv.kind ≡ kind
     → Stands lv line
-    → g ≡ gap_before_remark kind line.last line.is_remarked line.broken line.blank
-    → front ≡ remarks_tree lv.kind line.last lv.entry.remarks → x ≡ remark_tree s → ref_tree doc ≡ separated g front x
-    → Stands (with_remark lv s) (record line { is_remarked = true; remarks = doc; broken = false; blank = false })
-remark_stands lv line kind s g front x doc kinds h is fronts xs made = record {
+    → g ≡ gap_before_comment kind line.last line.is_commented line.broken line.blank
+    → front ≡ comments_tree lv.kind line.last lv.entry.comments → x ≡ comment_tree s → ref_tree doc ≡ separated g front x
+    → Stands (with_comment lv s) (record line { is_commented = true; comments = doc; broken = false; blank = false })
+comment_stands lv line kind s g front x doc kinds h is fronts xs made = record {
   end = h.end;
   comma = h.comma;
-  remarked = refl;
-  remarks = λ e. made ∙ (λ i. separated (gaps i) (fronts i) (xs i));
+  commented = refl;
+  comments = λ e. made ∙ (λ i. separated (gaps i) (fronts i) (xs i));
   broken = refl;
   blank = refl;
 }
   where
-    gaps : g ≡ gap_before_remark lv.kind line.last (is_some lv.entry.remarks) lv.broken lv.blank
-    gaps = is ∙ (λ i. gap_before_remark (sym kinds i) line.last (h.remarked i) (h.broken i) (h.blank i))
+    gaps : g ≡ gap_before_comment lv.kind line.last (is_some lv.entry.comments) lv.broken lv.blank
+    gaps = is ∙ (λ i. gap_before_comment (sym kinds i) line.last (h.commented i) (h.broken i) (h.blank i))
 
 -- a part more, on a line on which nothing waits
 pub part_stands : (lv : Level) (line : Line) (kind : Kind) (x : Lexeme) (value : Tree) (doc : RefDoc) (g : Gap) (l : Last)
     → HasTomlKind x → IsPart x → lv.kind ≡ kind → line_end line ≡ level_end lv → line.comma ≡ false
-    → line.is_remarked ≡ false
-    → line.blank ≡ lv.blank → g ≡ gap_before_part kind line.last (sort_for x) line.blank
+    → line.is_commented ≡ false
+    → line.blank ≡ lv.blank → g ≡ gap_before_part kind line.last (sort_for x) (head (toml_text_of x) == dot) line.blank
     → ref_tree doc ≡ separated g (ref_tree line.doc) value
     → l ≡ last_after x
     → Stands (with_part lv (toml_text_of x) value) (record line { doc = doc; last = l; broken = false; blank = false })
-part_stands lv line kind x value doc g l named part kinds is no_comma no_remarks blanks gap made lasts = record {
+part_stands lv line kind x value doc g l named part kinds is no_comma no_comments blanks gap made lasts = record {
   end = λ i. record { tree = trees i; last = ends i };
   comma = no_comma;
-  remarked = no_remarks;
-  remarks = λ e. absurd (clash e no_remarks);
+  commented = no_comments;
+  comments = λ e. absurd (clash e no_comments);
   broken = refl;
   blank = refl;
 }
   where
-    gaps : g ≡ gap_before_part lv.kind (level_end lv).last (sort_of (toml_text_of x)) lv.blank
-    gaps = gap ∙ (λ i. gap_before_part (sym kinds i) ((is i).last) (sym (sort_known x named) i) (blanks i))
+    gaps : g ≡ gap_before_text lv.kind (level_end lv).last (toml_text_of x) lv.blank
+    gaps =
+        gap ∙ (λ i. gap_before_part (sym kinds i) ((is i).last) (sym (sort_known x named) i) (head (toml_text_of x) == dot) (blanks i))
 
-    trees : ref_tree doc ≡ separated (gap_before_part lv.kind (level_end lv).last (sort_of (toml_text_of x)) lv.blank)
-        (level_end lv).tree value
+    trees : ref_tree doc ≡ separated (gap_before_text lv.kind (level_end lv).last (toml_text_of x) lv.blank) (level_end lv).tree value
     trees = made ∙ (λ i. separated (gaps i) ((is i).tree) value)
 
-    ends : l ≡ last_after_sort (sort_of (toml_text_of x))
-    ends = lasts ∙ last_known x part ∙ ap last_after_sort (sym (sort_known x named))
+    ends : l ≡ last_after_text (toml_text_of x)
+    ends = lasts ∙ part_last x named part
 
 -- before a closing bracket, with what waits in its place
 pub closed_same : (lv : Level) (line settled : Line) (kind : Kind) (keeps : Bool) → lv.kind ≡ kind → Stands lv line
-    → keeps ≡ comma_kept kind line.last line.comma line.is_remarked → line_end settled ≡ settled_end (record line { comma = keeps })
+    → keeps ≡ comma_kept kind line.last line.comma line.is_commented → line_end settled ≡ settled_end (record line { comma = keeps })
     → (trails : Bool) → trails ≡ (is_array kind && ends_item settled.last) → trailed_end trails line.comma (line_end settled) ≡ closed_end lv
 closed_same lv line settled kind keeps kinds h kept is trails test =
     λ i. trailed_end (tests i) (h.comma i) (ends i)
   where
-    commas : keeps ≡ comma_kept lv.kind (part_end lv).last lv.entry.comma (is_some lv.entry.remarks)
-    commas = kept ∙ (λ i. comma_kept (sym kinds i) ((h.end i).last) (h.comma i) (h.remarked i))
+    commas : keeps ≡ comma_kept lv.kind (part_end lv).last lv.entry.comma (is_some lv.entry.comments)
+    commas = kept ∙ (λ i. comma_kept (sym kinds i) ((h.end i).last) (h.comma i) (h.commented i))
 
     ends : line_end settled ≡ after_rest lv.kind (record lv.entry {
       comma = comma_kept lv.kind (part_end lv).last lv.entry.comma
-          (is_some lv.entry.remarks);
+          (is_some lv.entry.comments);
     }) (part_end lv)
-    ends = is ∙ settled_as lv line keeps (comma_kept lv.kind (part_end lv).last lv.entry.comma (is_some lv.entry.remarks)) h commas
+    ends = is ∙ settled_as lv line keeps (comma_kept lv.kind (part_end lv).last lv.entry.comma (is_some lv.entry.comments)) h commas
 
     tests : trails ≡ (is_array lv.kind && ends_item (after_rest lv.kind (record lv.entry {
       comma = comma_kept lv.kind
-          (part_end lv).last lv.entry.comma (is_some lv.entry.remarks);
+          (part_end lv).last lv.entry.comma (is_some lv.entry.comments);
     }) (part_end lv)).last)
     tests = test ∙ (λ i. is_array (sym kinds i) && ends_item ((ends i).last))
 
@@ -298,7 +303,7 @@ plain_levels style lexeme.CloseTable named part e first lv lvs ss = absurd part
 plain_levels style lexeme.Comma named part e first lv lvs ss = absurd part
 plain_levels style lexeme.Equals named part e first lv lvs ss = refl
 plain_levels style lexeme.LineEnd named part e first lv lvs ss = absurd part
-plain_levels style (lexeme.Remark s) named part e first lv lvs ss = absurd part
+plain_levels style (lexeme.Comment s) named part e first lv lvs ss = absurd part
 plain_levels style (lexeme.String s) named part e first lv lvs ss =
     ap (λ (k : Sort). levels_with style k first lv lvs s.now ss) (sort_string s.now named)
 plain_levels style (lexeme.Word s) named part e first lv lvs ss =
@@ -320,7 +325,7 @@ opened_levels style lexeme.CloseTable o around kind first lv lvs ss kinds is = a
 opened_levels style lexeme.Comma o around kind first lv lvs ss kinds is = absurd (cc)
 opened_levels style lexeme.Equals o around kind first lv lvs ss kinds is = absurd (cc)
 opened_levels style lexeme.LineEnd o around kind first lv lvs ss kinds is = absurd (cc)
-opened_levels style (lexeme.Remark s) o around kind first lv lvs ss kinds is = absurd (cc)
+opened_levels style (lexeme.Comment s) o around kind first lv lvs ss kinds is = absurd (cc)
 opened_levels style (lexeme.String s) o around kind first lv lvs ss kinds is = absurd (cc)
 opened_levels style (lexeme.Word s) o around kind first lv lvs ss kinds is = absurd (cc)
 
@@ -337,7 +342,7 @@ closed_reads style lexeme.OpenTable c d lv outer lvs left = absurd (cc)
 closed_reads style lexeme.Comma c d lv outer lvs left = absurd (cc)
 closed_reads style lexeme.Equals c d lv outer lvs left = absurd (cc)
 closed_reads style lexeme.LineEnd c d lv outer lvs left = absurd (cc)
-closed_reads style (lexeme.Remark s) c d lv outer lvs left = absurd (cc)
+closed_reads style (lexeme.Comment s) c d lv outer lvs left = absurd (cc)
 closed_reads style (lexeme.String s) c d lv outer lvs left = absurd (cc)
 closed_reads style (lexeme.Word s) c d lv outer lvs left = absurd (cc)
 
@@ -354,7 +359,7 @@ part_reads style lexeme.CloseArray named part d lv lvs left = absurd part
 part_reads style lexeme.CloseTable named part d lv lvs left = absurd part
 part_reads style lexeme.Comma named part d lv lvs left = absurd part
 part_reads style lexeme.LineEnd named part d lv lvs left = absurd part
-part_reads style (lexeme.Remark s) named part d lv lvs left = absurd part
+part_reads style (lexeme.Comment s) named part d lv lvs left = absurd part
 part_reads style (lexeme.String s) named part d lv lvs left =
     let e = sort_string s.now named in
     ap (λ (k : Sort). document_from style (draft_with style k (record d { levels = lv ∷ lvs }) s.now left) left) e
@@ -376,7 +381,7 @@ first_reads style lexeme.CloseArray named part d left = absurd part
 first_reads style lexeme.CloseTable named part d left = absurd part
 first_reads style lexeme.Comma named part d left = absurd part
 first_reads style lexeme.LineEnd named part d left = absurd part
-first_reads style (lexeme.Remark s) named part d left = absurd part
+first_reads style (lexeme.Comment s) named part d left = absurd part
 first_reads style (lexeme.String s) named part d left =
     let e = sort_string s.now named in
     ap (λ (k : Sort). document_from style (draft_with style k (record d { levels = [] }) s.now left) left) e
@@ -524,24 +529,24 @@ line_end_reads style lv s left made e h = record {
       ∙ line_end_around style d lv lvs left a;
 }
 
-remark_same : (style : Style) (d : Draft) (lv : Level) (lvs : List Level) (s : List ℕ) (left : List (List ℕ)) → head s ≡ hash
+comment_same : (style : Style) (d : Draft) (lv : Level) (lvs : List Level) (s : List ℕ) (left : List (List ℕ)) → head s ≡ hash
     → document_from style (record d { levels = lv ∷ lvs }) (s ∷ left)
-    ≡ document_from style (record d { levels = with_remark lv s ∷ lvs }) left
+    ≡ document_from style (record d { levels = with_comment lv s ∷ lvs }) left
 unfolding document_from
-remark_same style d lv lvs s left named =
-    ap (λ (k : Sort). document_from style (draft_with style k (record d { levels = lv ∷ lvs }) s left) left) (sort_remark s named)
+comment_same style d lv lvs s left named =
+    ap (λ (k : Sort). document_from style (draft_with style k (record d { levels = lv ∷ lvs }) s left) left) (sort_comment s named)
 
--- a remark was taken
-pub remark_reads : (style : Style) (nested : Bool) (lv : Level) (s t : List ℕ) (left : List (List ℕ)) (made : Line) → s ≡ t
+-- a comment was taken
+pub comment_reads : (style : Style) (nested : Bool) (lv : Level) (s t : List ℕ) (left : List (List ℕ)) (made : Line) → s ≡ t
     → head t ≡ hash
-    → Stands (with_remark lv t) made → ReadsOn style nested lv (s ∷ left) left made
-remark_reads style nested lv s t left made e named h = record {
-  level = with_remark lv t;
+    → Stands (with_comment lv t) made → ReadsOn style nested lv (s ∷ left) left made
+comment_reads style nested lv s t left made e named h = record {
+  level = with_comment lv t;
   kind = refl;
   opening = λ n. refl;
   stands = h;
   same = λ d lvs a. ap (λ (t : List ℕ). document_from style (record d { levels = lv ∷ lvs }) (t ∷ left)) e
-      ∙ remark_same style d lv lvs t left named;
+      ∙ comment_same style d lv lvs t left named;
 }
 
 -- a part was taken
@@ -560,18 +565,18 @@ value_reads style nested kind lv x old left tree made named part kinds read h = 
 -- ---- statements
 
 -- what a statement begins with
-pub begun_stands : (doc : RefDoc) (l : Last) (s : List ℕ) (tree : Tree) → ref_tree doc ≡ tree → l ≡ last_after_sort (sort_of s)
+pub begun_stands : (doc : RefDoc) (l : Last) (s : List ℕ) (tree : Tree) → ref_tree doc ≡ tree → l ≡ last_after_text s
     → Stands (with_part new_statement s tree) (begun doc l)
 begun_stands doc l s tree e lasts = record {
   end = λ i. record { tree = e i; last = lasts i };
   comma = refl;
-  remarked = refl;
-  remarks = λ e. absurd (cc);
+  commented = refl;
+  comments = λ e. absurd (cc);
   broken = refl;
   blank = refl;
 }
 
-pub closing_last : (x : Lexeme) → is_closing x ≡ true → last.Close ≡ last_after_sort (sort_of (toml_text_of x))
+pub closing_last : (x : Lexeme) → is_closing x ≡ true → last.Close ≡ last_after_text (toml_text_of x)
 closing_last lexeme.CloseArray c = refl
 closing_last lexeme.CloseTable c = refl
 closing_last lexeme.OpenArray c = absurd (cc)
@@ -579,12 +584,9 @@ closing_last lexeme.OpenTable c = absurd (cc)
 closing_last lexeme.Comma c = absurd (cc)
 closing_last lexeme.Equals c = absurd (cc)
 closing_last lexeme.LineEnd c = absurd (cc)
-closing_last (lexeme.Remark s) c = absurd (cc)
+closing_last (lexeme.Comment s) c = absurd (cc)
 closing_last (lexeme.String s) c = absurd (cc)
 closing_last (lexeme.Word s) c = absurd (cc)
-
-pub part_last : (x : Lexeme) → HasTomlKind x → IsPart x → last_after x ≡ last_after_sort (sort_of (toml_text_of x))
-part_last x named part = last_known x part ∙ ap last_after_sort (sym (sort_known x named))
 
 -- a statement that begins with a bracket that closes nothing
 pub closing_first : (style : Style) (x : Lexeme) → is_closing x ≡ true → (d : Draft) (left : List (List ℕ))
@@ -598,7 +600,7 @@ closing_first style lexeme.OpenTable c d left = absurd (cc)
 closing_first style lexeme.Comma c d left = absurd (cc)
 closing_first style lexeme.Equals c d left = absurd (cc)
 closing_first style lexeme.LineEnd c d left = absurd (cc)
-closing_first style (lexeme.Remark s) c d left = absurd (cc)
+closing_first style (lexeme.Comment s) c d left = absurd (cc)
 closing_first style (lexeme.String s) c d left = absurd (cc)
 closing_first style (lexeme.Word s) c d left = absurd (cc)
 
@@ -609,13 +611,13 @@ pub comma_first : (style : Style) (d : Draft) (left : List (List ℕ))
 unfolding document_from
 comma_first style d left = refl
 
--- with a remark
-pub remark_first_reads : (style : Style) (d : Draft) (s : List ℕ) (left : List (List ℕ)) → head s ≡ hash
+-- with a comment
+pub comment_first_reads : (style : Style) (d : Draft) (s : List ℕ) (left : List (List ℕ)) → head s ≡ hash
     → document_from style (record d { levels = [] }) (s ∷ left)
     ≡ document_from style (record d { levels = with_part new_statement s (counted.text (trimmed s)) ∷ [] }) left
 unfolding document_from
-remark_first_reads style d s left named =
-    ap (λ (k : Sort). document_from style (draft_with style k (record d { levels = [] }) s left) left) (sort_remark s named)
+comment_first_reads style d s left named =
+    ap (λ (k : Sort). document_from style (draft_with style k (record d { levels = [] }) s left) left) (sort_comment s named)
 
 closing_same_levels : (style : Style) (x : Lexeme) → is_closing x ≡ true → (d : Draft) (lv : Level) (left : List (List ℕ))
     → document_from style (record d { levels = lv ∷ [] }) (toml_text_of x ∷ left)
@@ -631,7 +633,7 @@ closing_same_levels style lexeme.OpenTable c d lv left = absurd (cc)
 closing_same_levels style lexeme.Comma c d lv left = absurd (cc)
 closing_same_levels style lexeme.Equals c d lv left = absurd (cc)
 closing_same_levels style lexeme.LineEnd c d lv left = absurd (cc)
-closing_same_levels style (lexeme.Remark s) c d lv left = absurd (cc)
+closing_same_levels style (lexeme.Comment s) c d lv left = absurd (cc)
 closing_same_levels style (lexeme.String s) c d lv left = absurd (cc)
 closing_same_levels style (lexeme.Word s) c d lv left = absurd (cc)
 

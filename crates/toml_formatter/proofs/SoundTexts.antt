@@ -2,8 +2,8 @@
 use Rattle.std.proofs.Common.{◌≡◌, refl, ℕ, true, List, []}
 use Rattle.std.specs.Prelude.{All}
 use Rattle.toml_lexemes.specs.Lexemes.{toml_lexemes_of}
-use Rattle.toml_statements.specs.Sound.{IsClosedString, AreSound}
-use Rattle.toml_statements.proofs.SoundTexts.{lexemes_sound}
+use Rattle.toml_lexemes.specs.Sound.{IsClosedString, AreSound}
+use Rattle.toml_lexemes.proofs.SoundTexts.{lexemes_sound}
 use Rattle.toml_grammar.specs.Grammar.{is_toml}
 use Rattle.toml_grammar.specs.Laws.{IsClosedIfString, StringsOfTomlAreClosed}
 

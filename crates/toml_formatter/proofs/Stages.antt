@@ -3,14 +3,14 @@ use Rattle.std.proofs.Common.{◌≡◌, refl, sym, ◌∙◌, ap, subst, ℕ, z
 use Rattle.prettyless_model.specs.Shows as shown
 use Rattle.prettyless_model.specs.Shows.{Item, Shown, Gap, Mark, Late, SameLine, AnyLine, Spacing, LineEnd, After, with_gap, more}
 use Rattle.toml_lexemes.specs.Bytes.{comma, head}
-use Rattle.toml_statements.specs.Statements.{Role, a_remark, a_closing, role, trimmed, Collected, line_ended, line_ended_at}
-use Rattle.toml_statements.specs.Statements.{with_held_comma, with_role, with_lexeme, with_lexemes}
-use Rattle.toml_statements.specs.Shown.{Stage, IsWholeLexeme, IsInside, MayStand, AreRead, after_shown, least_between}
+use Rattle.toml_lexemes.specs.Statements.{Role, a_comment, a_closing, role, trimmed, Collected, line_ended, line_ended_at}
+use Rattle.toml_lexemes.specs.Statements.{with_held_comma, with_role, with_lexeme, with_lexemes}
+use Rattle.toml_lexemes.specs.Shown.{Stage, IsWholeLexeme, IsInside, MayStand, AreRead, after_shown, least_between}
 use Rattle.toml_formatter.specs.declared.gaps.Gap.{Gap as Between}
 use Rattle.toml_formatter.specs.declared.gaps.Gap.TheVariants.{Nothing, Space, Beside, Edge, Line, Fill, BlankLine, Break, BlankBreak}
 use Rattle.toml_formatter.specs.declared.kind.Last.{Last}
 use Rattle.toml_formatter.specs.Gaps.{gap_items, least_of, stays, Suits}
-use Rattle.toml_formatter.specs.Lines.{directly_after, before_next, IsNested, EndsAs, Agrees, AreRemarks, WaitingRemarks, waiting}
+use Rattle.toml_formatter.specs.Lines.{directly_after, before_next, IsNested, EndsAs, Agrees, AreComments, WaitingComments, waiting}
 
 -- ---- items
 
@@ -147,36 +147,37 @@ text_read {nested} {last} {c} {t} {m} {gap} {s} items b next h =
 
 -- ---- lexemes that wait
 
--- a remark
-pub with_remark : (c : Collected) (s : List ℕ) → role s ≡ a_remark → with_lexeme c s ≡ record c { remarks = c.remarks ++ trimmed s ∷ [] }
-with_remark c s e = ap (λ (r : Role). with_role r c s) e
+-- a comment
+pub with_comment : (c : Collected) (s : List ℕ) → role s ≡ a_comment
+    → with_lexeme c s ≡ record c { comments = c.comments ++ trimmed s ∷ [] }
+with_comment c s e = ap (λ (r : Role). with_role r c s) e
 
 held_depth : (b : Bool) (c : Collected) → (with_held_comma b c).depth ≡ c.depth
 held_depth true c = refl
 held_depth false c = refl
 
-pub remarks_depth : (c : Collected) (rs : List (List ℕ)) → AreRemarks rs → (with_lexemes c rs).depth ≡ c.depth
-remarks_depth c [] h = refl
-remarks_depth c (s ∷ ss) h = remarks_depth (with_lexeme c s) ss h.1 ∙ ap (λ (x : Collected). x.depth) (with_remark c s h.0)
+pub comments_depth : (c : Collected) (rs : List (List ℕ)) → AreComments rs → (with_lexemes c rs).depth ≡ c.depth
+comments_depth c [] h = refl
+comments_depth c (s ∷ ss) h = comments_depth (with_lexeme c s) ss h.1 ∙ ap (λ (x : Collected). x.depth) (with_comment c s h.0)
 
-pub waiting_depth : (comma : Bool) (c : Collected) (rs : List (List ℕ)) → AreRemarks rs
+pub waiting_depth : (comma : Bool) (c : Collected) (rs : List (List ℕ)) → AreComments rs
     → (with_lexemes c (waiting comma rs)).depth ≡ c.depth
-waiting_depth false c rs h = remarks_depth c rs h
-waiting_depth true c rs h = remarks_depth (with_held_comma c.comma c) rs h ∙ held_depth c.comma c
+waiting_depth false c rs h = comments_depth c rs h
+waiting_depth true c rs h = comments_depth (with_held_comma c.comma c) rs h ∙ held_depth c.comma c
 
-pub waiting_remarks : (flag nested : Bool) (last : Last) (rs : List (List ℕ)) (items : List Item)
-    → WaitingRemarks flag nested last rs items → AreRemarks rs
-waiting_remarks true nested last rs items h = h.0
-waiting_remarks false nested last rs items h = subst AreRemarks (sym h) tt
+pub waiting_comments : (flag nested : Bool) (last : Last) (rs : List (List ℕ)) (items : List Item)
+    → WaitingComments flag nested last rs items → AreComments rs
+waiting_comments true nested last rs items h = h.0
+waiting_comments false nested last rs items h = subst AreComments (sym h) tt
 
 -- one more at the end of those that wait
 pub waiting_more : (comma : Bool) (rs : List (List ℕ)) (s : List ℕ) → waiting comma rs ++ s ∷ [] ≡ waiting comma (rs ++ s ∷ [])
 waiting_more true rs s = refl
 waiting_more false rs s = refl
 
-pub remarks_more : (rs : List (List ℕ)) (s : List ℕ) → AreRemarks rs → role s ≡ a_remark → AreRemarks (rs ++ s ∷ [])
-remarks_more [] s h e = (e, tt)
-remarks_more (r ∷ rs) s h e = (h.0, remarks_more rs s h.1 e)
+pub comments_more : (rs : List (List ℕ)) (s : List ℕ) → AreComments rs → role s ≡ a_comment → AreComments (rs ++ s ∷ [])
+comments_more [] s h e = (e, tt)
+comments_more (r ∷ rs) s h e = (h.0, comments_more rs s h.1 e)
 
 pub nested_along : (nested : Bool) (c d : Collected) → d.depth ≡ c.depth → IsNested nested c → IsNested nested d
 nested_along true c d e h = subst IsInside (sym e) h
@@ -187,22 +188,22 @@ nested_along false c d e h = tt
 abbrev without_comma : Collected → Collected
 without_comma y = record y { comma = false }
 
--- a comma that waits, and remarks after it
-forgets : (c : Collected) (rs : List (List ℕ)) → AreRemarks rs → Agrees false (with_lexemes (record c { comma = true }) rs)
+-- a comma that waits, and comments after it
+forgets : (c : Collected) (rs : List (List ℕ)) → AreComments rs → Agrees false (with_lexemes (record c { comma = true }) rs)
     (with_lexemes c rs)
 forgets c [] h = refl
 forgets c (s ∷ ss) h =
-    let d : Collected = record c { remarks = c.remarks ++ trimmed s ∷ [] } in
-    ap (λ (y : Collected). without_comma (with_lexemes y ss)) (with_remark (record c { comma = true }) s h.0)
+    let d : Collected = record c { comments = c.comments ++ trimmed s ∷ [] } in
+    ap (λ (y : Collected). without_comma (with_lexemes y ss)) (with_comment (record c { comma = true }) s h.0)
     ∙ forgets d ss h.1
-    ∙ sym (ap (λ (y : Collected). without_comma (with_lexemes y ss)) (with_remark c s h.0))
+    ∙ sym (ap (λ (y : Collected). without_comma (with_lexemes y ss)) (with_comment c s h.0))
 
-forgets_comma : (c : Collected) (rs : List (List ℕ)) → c.comma ≡ false → AreRemarks rs → Agrees false (with_lexemes c (waiting true rs))
+forgets_comma : (c : Collected) (rs : List (List ℕ)) → c.comma ≡ false → AreComments rs → Agrees false (with_lexemes c (waiting true rs))
     (with_lexemes c rs)
 forgets_comma c rs n h = ap (λ (b : Bool). without_comma (with_lexemes (with_held_comma b c) rs)) n ∙ forgets c rs h
 
 -- whether a comma waits makes no difference but for a comma
-pub waiting_agrees : (p q : Bool) (c : Collected) (rs : List (List ℕ)) → c.comma ≡ false → AreRemarks rs
+pub waiting_agrees : (p q : Bool) (c : Collected) (rs : List (List ℕ)) → c.comma ≡ false → AreComments rs
     → Agrees false (with_lexemes c (waiting p rs)) (with_lexemes c (waiting q rs))
 waiting_agrees true true c rs n h = refl
 waiting_agrees false false c rs n h = refl
@@ -217,14 +218,14 @@ pub closing_same : (c d : Collected) (x : List ℕ) → role x ≡ a_closing →
 closing_same c d x e h =
     ap (λ (r : Role). with_role r c x) e ∙ ap (λ (y : Collected). with_role a_closing y x) h ∙ sym (ap (λ (r : Role). with_role r d x) e)
 
--- a comma after remarks is before them
-pub comma_passes : (c : Collected) (rs : List (List ℕ)) → c.comma ≡ false → AreRemarks rs
+-- a comma after comments is before them
+pub comma_passes : (c : Collected) (rs : List (List ℕ)) → c.comma ≡ false → AreComments rs
     → with_lexeme (with_lexemes c rs) (comma ∷ []) ≡ with_lexemes c (waiting true rs)
 comma_passes c [] n h = refl
 comma_passes c (s ∷ ss) n h =
-    let d : Collected = record c { remarks = c.remarks ++ trimmed s ∷ [] } in
-    ap (λ (y : Collected). with_lexeme (with_lexemes y ss) (comma ∷ [])) (with_remark c s h.0)
+    let d : Collected = record c { comments = c.comments ++ trimmed s ∷ [] } in
+    ap (λ (y : Collected). with_lexeme (with_lexemes y ss) (comma ∷ [])) (with_comment c s h.0)
     ∙ comma_passes d ss n h.1
     ∙ ap (λ (b : Bool). with_lexemes (with_held_comma b d) ss) n
-    ∙ sym (ap (λ (y : Collected). with_lexemes y ss) (with_remark (record c { comma = true }) s h.0))
+    ∙ sym (ap (λ (y : Collected). with_lexemes y ss) (with_comment (record c { comma = true }) s h.0))
     ∙ sym (ap (λ (b : Bool). with_lexemes (with_held_comma b c) (s ∷ ss)) n)

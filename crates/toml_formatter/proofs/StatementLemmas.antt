@@ -10,16 +10,16 @@ use Rattle.toml_lexemes.specs.Bytes.{comma, hash, head}
 use Rattle.toml_lexemes.specs.View.{toml_text_of}
 use Rattle.toml_lexemes.specs.declared.lexeme.Lexeme.{Lexeme}
 use Rattle.toml_lexemes.specs.declared.lexeme.Lexeme.TheVariants as lexeme
-use Rattle.toml_statements.specs.Statements.{trimmed, Collected, with_lexeme, with_lexemes}
-use Rattle.toml_statements.specs.Shown.{Stage, IsWholeLexeme, IsReady}
+use Rattle.toml_lexemes.specs.Statements.{trimmed, Collected, with_lexeme, with_lexemes}
+use Rattle.toml_lexemes.specs.Shown.{Stage, IsWholeLexeme, IsReady}
 use Rattle.toml_formatter.specs.declared.gaps.Gap.TheVariants as gap
 use Rattle.toml_formatter.specs.declared.kind.Last.{Last}
 use Rattle.toml_formatter.specs.declared.kind.Last.TheVariants as last
 use Rattle.toml_formatter.specs.declared.line.Line.{Line}
-use Rattle.toml_formatter.specs.Gaps.{least_needed, is_last_remark}
+use Rattle.toml_formatter.specs.Gaps.{least_needed, is_last_comment}
 use Rattle.toml_formatter.specs.Kinds.{is_closing, IsPart}
-use Rattle.toml_statements.specs.Sound.{LineEndsNext}
-use Rattle.toml_formatter.specs.Lines.{directly_after, before_next, EndsCollected, WaitingRemarks, waiting, LineRead, ShowsTaken}
+use Rattle.toml_lexemes.specs.Sound.{LineEndsNext}
+use Rattle.toml_formatter.specs.Lines.{directly_after, before_next, EndsCollected, WaitingComments, waiting, LineRead, ShowsTaken}
 use Rattle.toml_formatter.specs.Lines.{ValueRead, IsValue}
 use Rattle.toml_formatter.specs.Lines.{ClosedRead, IsClosed, TakesMore, MayGoOn, begun, StatementRead, IsStatement}
 use Rattle.toml_formatter.proofs.Stages.{read_both, MayFollow, text_read}
@@ -35,11 +35,11 @@ pub text_begins : (doc : RefDoc) (l : Last) (s t : List ℕ) (left : List (List 
     → ShowsTaken false true (begun doc l) left (s ∷ [])
 text_begins doc l s t left h whole same ends = record {
   items = Shown t ∷ [];
-  remark_items = Shown t ∷ [];
+  comment_items = Shown t ∷ [];
   rs = [];
   shown = h;
-  remarks_shown = h;
-  remarks = refl;
+  comments_shown = h;
+  comments = refl;
   read = λ a ready. record {
     collected = with_lexeme (before_next a) t;
     text = t;
@@ -56,11 +56,11 @@ comma_begins doc left h =
     text_begins doc last.Comma (comma ∷ []) (comma ∷ []) left h comma_is_whole (λ c. refl)
     (λ c. record { needs = λ u. refl; plain = tt; inside = tt })
 
-pub remark_begins : (doc : RefDoc) (r : List ℕ) (left : List (List ℕ)) → head r ≡ hash → IsWholeLexeme (trimmed r)
+pub comment_begins : (doc : RefDoc) (r : List ℕ) (left : List (List ℕ)) → head r ≡ hash → IsWholeLexeme (trimmed r)
     → shows (ref_tree doc) (Shown (trimmed r) ∷ [])
-    → ShowsTaken false true (begun doc last.Remark) left (r ∷ [])
-remark_begins doc r left e whole h =
-    text_begins doc last.Remark r (trimmed r) left h whole (λ c. trimmed_read c r e whole)
+    → ShowsTaken false true (begun doc last.Comment) left (r ∷ [])
+comment_begins doc r left e whole h =
+    text_begins doc last.Comment r (trimmed r) left h whole (λ c. trimmed_read c r e whole)
     (λ c. record { needs = hash_ends (trimmed r) (trimmed_head r e); plain = tt; inside = tt })
 
 pub bracket_begins : {x : Lexeme} {left : List (List ℕ)} (doc : RefDoc) → ShowsClosing x left (ref_tree doc)
@@ -73,11 +73,11 @@ pub value_begins : (doc : RefDoc) (l : Last) (s : List ℕ) (left vs : List (Lis
     → ShowsTaken false true (begun doc l) left (s ∷ vs)
 value_begins doc l s left vs whole v = record {
   items = Shown s ∷ v.items;
-  remark_items = Shown s ∷ v.items;
+  comment_items = Shown s ∷ v.items;
   rs = [];
   shown = v.shown;
-  remarks_shown = v.shown;
-  remarks = refl;
+  comments_shown = v.shown;
+  comments = refl;
   read = λ a ready. one a ready (v.read (before_next a));
 }
   where
@@ -92,27 +92,28 @@ value_begins doc l s left vs whole v = record {
       level = inr outside_brackets;
     }
 
-nothing_needed : (l : Last) → is_last_remark l ≡ false → least_needed l 93 ≡ shown.Nothing
+nothing_needed : (l : Last) → is_last_comment l ≡ false → least_needed l 93 ≡ shown.Nothing
 nothing_needed last.Start e = refl
 nothing_needed last.Close e = refl
 nothing_needed last.Equals e = refl
 nothing_needed last.Word e = refl
+nothing_needed last.Dot e = refl
 nothing_needed last.String e = refl
 nothing_needed last.Comma e = refl
-nothing_needed last.Remark e = absurd (cc)
+nothing_needed last.Comment e = absurd (cc)
 
 -- a bracket that closes nothing
 pub bracket_taken : {line : Line} {d : Tree} {x : Lexeme} {left taken : List (List ℕ)} (doc : RefDoc)
-    → ShowsClosing x left d → is_last_remark line.last ≡ false → ShowsBoth (ref_tree line.doc) [] d (ref_tree doc)
+    → ShowsClosing x left d → is_last_comment line.last ≡ false → ShowsBoth (ref_tree line.doc) [] d (ref_tree doc)
     → IsClosed false line (toml_text_of x) taken
     → ShowsTaken false true (begun doc last.Close) left (taken ++ toml_text_of x ∷ [])
 bracket_taken {line} {x = x} {left = left} {taken = taken} doc closer plain both h = record {
   items = h.items ++ Shown (toml_text_of x) ∷ [];
-  remark_items = h.items ++ Shown (toml_text_of x) ∷ [];
+  comment_items = h.items ++ Shown (toml_text_of x) ∷ [];
   rs = [];
   shown = both h.items (Shown (toml_text_of x) ∷ []) h.shown closer.shown;
-  remarks_shown = both h.items (Shown (toml_text_of x) ∷ []) h.shown closer.shown;
-  remarks = refl;
+  comments_shown = both h.items (Shown (toml_text_of x) ∷ []) h.shown closer.shown;
+  comments = refl;
   read = λ a ready. one a (h.read a ready);
 }
   where
@@ -150,8 +151,8 @@ line_is_statement line left taken settled h = record {
   read = λ a ready. one a (h.read a ready);
 }
   where
-    no_remarks : h.rs ≡ []
-    no_remarks = subst (λ (w : Bool). WaitingRemarks w false line.last h.rs h.remark_items) settled.no_remarks h.remarks
+    no_comments : h.rs ≡ []
+    no_comments = subst (λ (w : Bool). WaitingComments w false line.last h.rs h.comment_items) settled.no_comments h.comments
 
     one : (a : Stage) → LineRead false true line left taken h.items h.rs a → StatementRead taken h.items a
     one a r = record {
@@ -159,19 +160,19 @@ line_is_statement line left taken settled h = record {
       text = r.text;
       read = r.read;
       same = r.same ∙ ap (λ (w : Bool). with_lexemes r.collected (waiting w h.rs)) settled.no_comma
-          ∙ ap (λ (rs : List (List ℕ)). with_lexemes r.collected rs) no_remarks;
+          ∙ ap (λ (rs : List (List ℕ)). with_lexemes r.collected rs) no_comments;
     }
 
 pub may_settle : (line : Line) (left : List (List ℕ)) → MayGoOn line left → false ≡ false → line.comma ≡ true →
-    is_last_remark line.last ≡ false
+    is_last_comment line.last ≡ false
 may_settle line left h e k = elim h [ inl g ↦ g.1 | inr g ↦ g.0 k ]
 
 pub goes_on : (line : Line) (left : List (List ℕ)) → (LineEndsNext left → ⊥) → MayGoOn line left → TakesMore false line
 goes_on line left none h = elim h [ inl g ↦ g | inr g ↦ absurd (none g.1) ]
 
--- what closes no list and is no comma, remark or line end is a part of a statement
+-- what closes no list and is no comma, comment or line end is a part of a statement
 pub part_of : (x : Lexeme) (ls : List (List ℕ)) → (LineEndsNext (toml_text_of x ∷ ls) → ⊥) → is_closing x ≡ false → (x ≡ lexeme.Comma → ⊥)
-    → ((r : Bor (List ℕ)) → x ≡ lexeme.Remark r → ⊥) → IsPart x
+    → ((r : Bor (List ℕ)) → x ≡ lexeme.Comment r → ⊥) → IsPart x
 part_of lexeme.OpenArray ls n e p q = tt
 part_of lexeme.OpenTable ls n e p q = tt
 part_of lexeme.Equals ls n e p q = tt
@@ -181,4 +182,4 @@ part_of lexeme.CloseArray ls n e p q = absurd (cc)
 part_of lexeme.CloseTable ls n e p q = absurd (cc)
 part_of lexeme.Comma ls n e p q = absurd (p refl)
 part_of lexeme.LineEnd ls n e p q = absurd (n (inr (ls, refl)))
-part_of (lexeme.Remark s) ls n e p q = absurd (q s refl)
+part_of (lexeme.Comment s) ls n e p q = absurd (q s refl)

@@ -1,11 +1,11 @@
--- The blanks at the end of a remark.
+-- The blanks at the end of a comment.
 use Rattle.std.proofs.Common.{◌≡◌, sym, ◌∙◌, ap, ℕ, ◌+◌, ◌-◌, ◌<◌, ◌≤◌, Bool, true, false, cond, List, [], ◌∷◌, ◌++◌, length, take, get_or}
 use Rattle.std.proofs.Common.{◌||◌, ◌==◌, inl, inr, arith}
 use Rattle.std.proofs.lemmas.Bool.{eqb-true, or_cases}
 use Rattle.std.proofs.lemmas.List.{take_more}
 use Rattle.toml_lexemes.specs.Bytes.{is_blank}
-use Rattle.toml_statements.specs.Statements.{trimmed, before_trimmed}
-use Rattle.toml_statements.proofs.Trimmed.{trimmed_before_gap}
+use Rattle.toml_lexemes.specs.Statements.{trimmed, before_trimmed}
+use Rattle.toml_lexemes.proofs.Trimmed.{trimmed_before_gap}
 
 -- a byte that is no blank ends it
 full : (s : List ℕ) (x : ℕ) → is_blank x ≡ false → trimmed (s ++ x ∷ []) ≡ s ++ x ∷ []

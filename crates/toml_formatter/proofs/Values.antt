@@ -1,31 +1,31 @@
 -- Values and lists.
 use Rattle.std.proofs.Common.{◌≡◌, refl, sym, ◌∙◌, ap, subst, ℕ, suc, Bool, true, false, cond, ◌||◌, ◌==◌, List, [], ◌∷◌, ◌++◌, inl, inr}
-use Rattle.std.specs.Prelude.{◌⊎◌}
+use Rattle.std.specs.Prelude.{◌⊎◌, ⊤}
 use Rattle.prettyless.specs.Tree.{Tree}
 use Rattle.prettyless.specs.Trees.{ref_tree}
 use Rattle.prettyless_model.specs.Shows as shown
 use Rattle.prettyless_model.specs.Shows.{Shown, more, shows}
 use Rattle.prettyless_shapes.specs.Items.{ShowsBoth, ShowsSame}
 use Rattle.prettyless_shapes.specs.Shown.{text_items}
-use Rattle.toml_lexemes.specs.Bytes.{hash, head, is_sign, is_quote, ends_word, is_blank}
+use Rattle.toml_lexemes.specs.Bytes.{hash, head, is_sign, is_quote, ends_word, ends_with_dot, is_blank}
 use Rattle.toml_lexemes.specs.View.{toml_text_of, HasTomlKind}
 use Rattle.toml_lexemes.specs.declared.lexeme.Lexeme.{Lexeme}
 use Rattle.toml_lexemes.specs.declared.lexeme.Lexeme.TheVariants as lexeme
-use Rattle.toml_statements.specs.Statements.{Role, a_closing, any_other, role, role_of, trimmed, Collected, outside, with_role, with_lexeme}
-use Rattle.toml_statements.specs.Statements.{with_lexemes}
-use Rattle.toml_statements.specs.Shown.{IsWholeLexeme, least_after}
+use Rattle.toml_lexemes.specs.Statements.{Role, a_closing, a_word, any_other, role, role_of, trimmed, Collected, outside}
+use Rattle.toml_lexemes.specs.Statements.{with_role, with_lexeme, with_lexemes}
+use Rattle.toml_lexemes.specs.Shown.{IsWholeLexeme, least_after_word, least_after}
 use Rattle.toml_formatter.specs.declared.gaps.Gap.{Gap as Between}
 use Rattle.toml_formatter.specs.declared.kind.Last.{Last}
 use Rattle.toml_formatter.specs.declared.kind.Last.TheVariants as last
 use Rattle.toml_formatter.specs.declared.line.Line.{Line}
 use Rattle.toml_formatter.specs.Gaps.{gap_items, least_of, least_needed}
-use Rattle.toml_formatter.specs.Kinds.{is_closing, is_opening, last_after, IsPart}
-use Rattle.toml_statements.specs.Sound.{IsSound, IsSoundIn, LineEndsNext}
-use Rattle.toml_formatter.specs.Lines.{directly_after, EndsAs, EndsCollected, HoldsNothingAfter, WaitingRemarks, waiting, LineRead}
+use Rattle.toml_formatter.specs.Kinds.{is_closing, is_opening, last_after_word, last_after, IsPart}
+use Rattle.toml_lexemes.specs.Sound.{IsSound, IsSoundIn, LineEndsNext}
+use Rattle.toml_formatter.specs.Lines.{directly_after, EndsAs, EndsCollected, HoldsNothingAfter, WaitingComments, waiting, LineRead}
 use Rattle.toml_formatter.specs.Lines.{ShowsTaken}
 use Rattle.toml_formatter.specs.Lines.{ValueRead, IsValue, ClosedRead, IsClosed}
 use Rattle.std.proofs.lemmas.Bool.{eqb-true, or_cases}
-use Rattle.toml_statements.proofs.WholeLexemes.{quote_role, word_role}
+use Rattle.toml_lexemes.proofs.WholeLexemes.{quote_role, word_role}
 use Rattle.toml_formatter.proofs.LineLemmas.{hash_role, IsSettled}
 use Rattle.toml_formatter.proofs.Stages.{read_both, MayFollow, text_read}
 
@@ -41,7 +41,7 @@ opening_ends lexeme.CloseTable e c = absurd (cc)
 opening_ends lexeme.Comma e c = absurd (cc)
 opening_ends lexeme.Equals e c = absurd (cc)
 opening_ends lexeme.LineEnd e c = absurd (cc)
-opening_ends (lexeme.Remark s) e c = absurd (cc)
+opening_ends (lexeme.Comment s) e c = absurd (cc)
 opening_ends (lexeme.String s) e c = absurd (cc)
 opening_ends (lexeme.Word s) e c = absurd (cc)
 
@@ -58,7 +58,7 @@ opening_depth x e c k h y f = closing_depth y f k c (h ∙ deeper x e)
     deeper lexeme.Comma e = absurd (cc)
     deeper lexeme.Equals e = absurd (cc)
     deeper lexeme.LineEnd e = absurd (cc)
-    deeper (lexeme.Remark s) e = absurd (cc)
+    deeper (lexeme.Comment s) e = absurd (cc)
     deeper (lexeme.String s) e = absurd (cc)
     deeper (lexeme.Word s) e = absurd (cc)
 
@@ -71,7 +71,7 @@ opening_depth x e c k h y f = closing_depth y f k c (h ∙ deeper x e)
     closing_depth lexeme.Comma e k c h = absurd (cc)
     closing_depth lexeme.Equals e k c h = absurd (cc)
     closing_depth lexeme.LineEnd e k c h = absurd (cc)
-    closing_depth (lexeme.Remark s) e k c h = absurd (cc)
+    closing_depth (lexeme.Comment s) e k c h = absurd (cc)
     closing_depth (lexeme.String s) e k c h = absurd (cc)
     closing_depth (lexeme.Word s) e k c h = absurd (cc)
 
@@ -84,7 +84,7 @@ closing_ends lexeme.OpenTable e c = absurd (cc)
 closing_ends lexeme.Comma e c = absurd (cc)
 closing_ends lexeme.Equals e c = absurd (cc)
 closing_ends lexeme.LineEnd e c = absurd (cc)
-closing_ends (lexeme.Remark s) e c = absurd (cc)
+closing_ends (lexeme.Comment s) e c = absurd (cc)
 closing_ends (lexeme.String s) e c = absurd (cc)
 closing_ends (lexeme.Word s) e c = absurd (cc)
 
@@ -96,7 +96,7 @@ closing_role lexeme.OpenTable e = absurd (cc)
 closing_role lexeme.Comma e = absurd (cc)
 closing_role lexeme.Equals e = absurd (cc)
 closing_role lexeme.LineEnd e = absurd (cc)
-closing_role (lexeme.Remark s) e = absurd (cc)
+closing_role (lexeme.Comment s) e = absurd (cc)
 closing_role (lexeme.String s) e = absurd (cc)
 closing_role (lexeme.Word s) e = absurd (cc)
 
@@ -109,15 +109,16 @@ closing_head lexeme.CloseTable e last.Start = refl
 closing_head lexeme.CloseTable e last.Close = refl
 closing_head lexeme.CloseTable e last.Equals = refl
 closing_head lexeme.CloseTable e last.Word = refl
+closing_head lexeme.CloseTable e last.Dot = refl
 closing_head lexeme.CloseTable e last.String = refl
 closing_head lexeme.CloseTable e last.Comma = refl
-closing_head lexeme.CloseTable e last.Remark = refl
+closing_head lexeme.CloseTable e last.Comment = refl
 closing_head lexeme.OpenArray e l = absurd (cc)
 closing_head lexeme.OpenTable e l = absurd (cc)
 closing_head lexeme.Comma e l = absurd (cc)
 closing_head lexeme.Equals e l = absurd (cc)
 closing_head lexeme.LineEnd e l = absurd (cc)
-closing_head (lexeme.Remark s) e l = absurd (cc)
+closing_head (lexeme.Comment s) e l = absurd (cc)
 closing_head (lexeme.String s) e l = absurd (cc)
 closing_head (lexeme.Word s) e l = absurd (cc)
 
@@ -131,7 +132,7 @@ closing_shows lexeme.OpenTable d t e f h = absurd (cc)
 closing_shows lexeme.Comma d t e f h = absurd (cc)
 closing_shows lexeme.Equals d t e f h = absurd (cc)
 closing_shows lexeme.LineEnd d t e f h = absurd (cc)
-closing_shows (lexeme.Remark s) d t e f h = absurd (cc)
+closing_shows (lexeme.Comment s) d t e f h = absurd (cc)
 closing_shows (lexeme.String s) d t e f h = absurd (cc)
 closing_shows (lexeme.Word s) d t e f h = absurd (cc)
 
@@ -144,7 +145,7 @@ opening_shows lexeme.CloseTable d t e f h = absurd (cc)
 opening_shows lexeme.Comma d t e f h = absurd (cc)
 opening_shows lexeme.Equals d t e f h = absurd (cc)
 opening_shows lexeme.LineEnd d t e f h = absurd (cc)
-opening_shows (lexeme.Remark s) d t e f h = absurd (cc)
+opening_shows (lexeme.Comment s) d t e f h = absurd (cc)
 opening_shows (lexeme.String s) d t e f h = absurd (cc)
 opening_shows (lexeme.Word s) d t e f h = absurd (cc)
 
@@ -156,7 +157,7 @@ opening_last lexeme.CloseTable e = refl
 opening_last lexeme.Comma e = refl
 opening_last lexeme.Equals e = absurd (cc)
 opening_last lexeme.LineEnd e = refl
-opening_last (lexeme.Remark s) e = refl
+opening_last (lexeme.Comment s) e = refl
 opening_last (lexeme.String s) e = absurd (cc)
 opening_last (lexeme.Word s) e = absurd (cc)
 
@@ -251,8 +252,8 @@ list_unclosed {x} {line} {taken} whole opener both settled h = record {
   ));
 }
   where
-    no_remarks : h.rs ≡ []
-    no_remarks = subst (λ (w : Bool). WaitingRemarks w true line.last h.rs h.remark_items) settled.no_remarks h.remarks
+    no_comments : h.rs ≡ []
+    no_comments = subst (λ (w : Bool). WaitingComments w true line.last h.rs h.comment_items) settled.no_comments h.comments
 
     one : (c : Collected) → LineRead true true line [] taken h.items h.rs (directly_after (with_lexeme c (toml_text_of x)) (toml_text_of x))
         → ValueRead (last_after x) (toml_text_of x) [] taken h.items c
@@ -261,7 +262,7 @@ list_unclosed {x} {line} {taken} whole opener both settled h = record {
       text = r.text;
       read = r.read;
       same = sym (r.same ∙ ap (λ (w : Bool). with_lexemes r.collected (waiting w h.rs)) settled.no_comma
-          ∙ ap (λ (rs : List (List ℕ)). with_lexemes r.collected rs) no_remarks);
+          ∙ ap (λ (rs : List (List ℕ)). with_lexemes r.collected rs) no_comments);
       ends = inl refl;
     }
 
@@ -272,8 +273,8 @@ quote_is x e = elim (or_cases (x == 34) (x == 39) e) [ inl p ↦ inl (eqb-true x
 
 quote_needs : (x : ℕ) (xs : List ℕ) → is_quote x ≡ true → EndsAs last.String (x ∷ xs)
 quote_needs x xs e u = elim (quote_is x e) [
-  | inl p ↦ ap (λ (y : ℕ). least_after y (head u)) p
-  | inr p ↦ ap (λ (y : ℕ). least_after y (head u)) p
+  | inl p ↦ ap (λ (y : ℕ). least_after (ends_with_dot (x ∷ xs)) y (head u)) p
+  | inr p ↦ ap (λ (y : ℕ). least_after (ends_with_dot (x ∷ xs)) y (head u)) p
 ]
 
 neither : (p q : Bool) → (p || q) ≡ false → (p ≡ false) × (q ≡ false)
@@ -283,17 +284,34 @@ neither false q e = (refl, e)
 pick : (a b q : Bool) (l m z w : shown.Least) → a ≡ false → b ≡ false → q ≡ false → cond a l (cond b m (cond q z w)) ≡ w
 pick a b q l m z w e f g = rw (e, f, g) refl
 
-word_needs : (x : ℕ) (xs : List ℕ) → ends_word x ≡ false → EndsAs last.Word (x ∷ xs)
+needed_after_word : (dotted : Bool) (y : ℕ) → least_after_word dotted y ≡ least_needed (last_after_word dotted) y
+needed_after_word true y = refl
+needed_after_word false y = refl
+
+word_needs : (x : ℕ) (xs : List ℕ) → ends_word x ≡ false → EndsAs (last_after_word (ends_with_dot (x ∷ xs))) (x ∷ xs)
 word_needs x xs e u =
     let hashless = neither (is_sign x || is_blank x || is_quote x || (x == 10)) (x == hash) e in
     let lineless = neither (is_sign x || is_blank x || is_quote x) (x == 10) hashless.0 in
     let quoteless = neither (is_sign x || is_blank x) (is_quote x) lineless.0 in
     let signless = neither (is_sign x) (is_blank x) quoteless.0 in
     pick (is_sign x) (x == hash) (is_quote x) _ _ _ _ signless.0 hashless.1 quoteless.1
+    ∙ needed_after_word (ends_with_dot (x ∷ xs)) (head u)
+
+-- a role that changes no depth, after which nothing waits
+abbrev IsPlain : Role → Type 0
+IsPlain a_word = ⊤
+IsPlain any_other = ⊤
+IsPlain r = ⊥
+
+plain_read : (r : Role) → IsPlain r → (c : Collected) (s : List ℕ)
+    → ((with_role r c s).depth ≡ c.depth) × ((with_role r c s).comma ≡ false) × ((with_role r c s).comments ≡ [])
+plain_read a_word plain c s = (refl, refl, refl)
+plain_read any_other plain c s = (refl, refl, refl)
+plain_read r plain c s = absurd plain
 
 -- a lexeme alone, which is no sign of a list
-alone : (l : Last) (x : ℕ) (xs : List ℕ) (left : List (List ℕ)) (d : Tree) → role_of x ≡ any_other → EndsAs l (x ∷ xs)
-    → ((c : Collected) → (c.comma ≡ false) × (c.remarks ≡ []) → HoldsNothingAfter l c) → shows d (Shown (x ∷ xs) ∷ [])
+alone : (l : Last) (x : ℕ) (xs : List ℕ) (left : List (List ℕ)) (d : Tree) → IsPlain (role_of x) → EndsAs l (x ∷ xs)
+    → ((c : Collected) → (c.comma ≡ false) × (c.comments ≡ []) → HoldsNothingAfter l c) → shows d (Shown (x ∷ xs) ∷ [])
     → IsValue l (x ∷ xs) left [] d
 alone l x xs left d is needs plain h = record {
   items = [];
@@ -305,29 +323,36 @@ alone l x xs left d is needs plain h = record {
     same = refl;
     ends = inr (
       record { needs = needs; plain = plain (with_lexeme c (x ∷ xs)) (nothing c); inside = tt },
-      ap (λ (r : Role). (with_role r c (x ∷ xs)).depth) is,
+      (plain_read (role_of x) is c (x ∷ xs)).0,
     );
   };
 }
   where
-    nothing : (c : Collected) → ((with_lexeme c (x ∷ xs)).comma ≡ false) × ((with_lexeme c (x ∷ xs)).remarks ≡ [])
-    nothing c = (ap (λ (r : Role). (with_role r c (x ∷ xs)).comma) is, ap (λ (r : Role). (with_role r c (x ∷ xs)).remarks) is)
+    nothing : (c : Collected) → ((with_lexeme c (x ∷ xs)).comma ≡ false) × ((with_lexeme c (x ∷ xs)).comments ≡ [])
+    nothing c = let read = plain_read (role_of x) is c (x ∷ xs) in (read.1, read.2)
 
 string_alone : (s : List ℕ) (left : List (List ℕ)) (d : Tree) → is_quote (head s) ≡ true → shows d (text_items s)
     → IsValue last.String s left [] d
 string_alone [] left d e h = absurd (cc)
-string_alone (x ∷ xs) left d e h = alone last.String x xs left d (quote_role x e) (quote_needs x xs e) (λ c n. n) h
+string_alone (x ∷ xs) left d e h = alone last.String x xs left d (subst IsPlain (sym (quote_role x e)) tt)
+    (quote_needs x xs e) (λ c n. n) h
 
 word_alone : (s : List ℕ) (left : List (List ℕ)) (d : Tree) → ends_word (head s) ≡ false → shows d (text_items s)
-    → IsValue last.Word s left [] d
+    → IsValue (last_after_word (ends_with_dot s)) s left [] d
 word_alone [] left d e h = absurd (cc)
-word_alone (x ∷ xs) left d e h = alone last.Word x xs left d (word_role x e) (word_needs x xs e) (λ c n. n) h
+word_alone (x ∷ xs) left d e h =
+    alone (last_after_word (ends_with_dot (x ∷ xs))) x xs left d (subst IsPlain (sym (word_role x e)) tt) (word_needs x xs e)
+    (λ c n. nothing (ends_with_dot (x ∷ xs)) c n) h
+  where
+    nothing : (dotted : Bool) (c : Collected) → (c.comma ≡ false) × (c.comments ≡ []) → HoldsNothingAfter (last_after_word dotted) c
+    nothing true c n = n
+    nothing false c n = n
 
 pub part_alone : (x : Lexeme) (t : List ℕ) (left : List (List ℕ)) (d : Tree) → HasTomlKind x → IsPart x → is_opening x ≡ false →
     t ≡ toml_text_of x
     → shows d (text_items t)
     → IsValue (last_after x) (toml_text_of x) left [] d
-part_alone lexeme.Equals t left d n p e f h = alone last.Equals 61 [] left d refl (λ u. refl) (λ c k. k)
+part_alone lexeme.Equals t left d n p e f h = alone last.Equals 61 [] left d tt (λ u. refl) (λ c k. k)
     (subst (λ (s : List ℕ). shows d (text_items s)) f h)
 part_alone (lexeme.String s) t left d n p e f h = string_alone s.now left d n (subst (λ (y : List ℕ). shows d (text_items y)) f h)
 part_alone (lexeme.Word s) t left d n p e f h = word_alone s.now left d n (subst (λ (y : List ℕ). shows d (text_items y)) f h)
@@ -337,7 +362,7 @@ part_alone lexeme.CloseArray t left d n p e f h = absurd p
 part_alone lexeme.CloseTable t left d n p e f h = absurd p
 part_alone lexeme.Comma t left d n p e f h = absurd p
 part_alone lexeme.LineEnd t left d n p e f h = absurd p
-part_alone (lexeme.Remark s) t left d n p e f h = absurd p
+part_alone (lexeme.Comment s) t left d n p e f h = absurd p
 
 -- a part of a statement is whole
 pub part_whole : (x : Lexeme) (ss : List (List ℕ)) → HasTomlKind x → IsPart x → IsSound (toml_text_of x) ss → IsWholeLexeme (toml_text_of x)
@@ -350,8 +375,8 @@ part_whole lexeme.CloseArray ss n p h = absurd p
 part_whole lexeme.CloseTable ss n p h = absurd p
 part_whole lexeme.Comma ss n p h = absurd p
 part_whole lexeme.LineEnd ss n p h = absurd p
-part_whole (lexeme.Remark s) ss n p h = absurd p
+part_whole (lexeme.Comment s) ss n p h = absurd p
 
--- what does not close a list, and is no comma, remark or line end, is a part
-pub remark_whole : (s : List ℕ) (ss : List (List ℕ)) → head s ≡ hash → IsSound s ss → IsWholeLexeme (trimmed s) × LineEndsNext ss
-remark_whole s ss e h = subst (λ (r : Role). IsSoundIn r s ss) (hash_role s e) h.sound
+-- what does not close a list, and is no comma, comment or line end, is a part
+pub comment_whole : (s : List ℕ) (ss : List (List ℕ)) → head s ≡ hash → IsSound s ss → IsWholeLexeme (trimmed s) × LineEndsNext ss
+comment_whole s ss e h = subst (λ (r : Role). IsSoundIn r s ss) (hash_role s e) h.sound

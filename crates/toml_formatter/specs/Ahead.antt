@@ -2,7 +2,7 @@
 use Rattle.std.specs.Prelude.{◌≡◌, ℕ, List, [], ◌∷◌, Option, Some, None}
 use Rattle.toml_lexemes.specs.View.{toml_text_of, HasTomlKind}
 use Rattle.toml_lexemes.specs.declared.lexeme.Lexeme.{Lexeme}
-use Rattle.toml_statements.specs.Sound.{AreSound}
+use Rattle.toml_lexemes.specs.Sound.{AreSound}
 
 -- the lexemes that are left: the one that was read, and those after it
 abbrev pub toml_lexemes_left : Option Lexeme → List (List ℕ) → List (List ℕ)

@@ -14,11 +14,11 @@ use Rattle.toml_formatter.specs.declared.standing.Standing.{Standing}
 use Rattle.toml_formatter.specs.declared.style.Style.{Style}
 
 abbrev pub is_comment_sort : Sort → Bool
-is_comment_sort sort.remark = true
+is_comment_sort sort.comment = true
 is_comment_sort s = false
 
-abbrev pub is_comment : SpacedToml → Bool
-is_comment p = is_comment_sort (sort_of p.lexeme)
+abbrev pub is_comment_lexeme : SpacedToml → Bool
+is_comment_lexeme p = is_comment_sort (sort_of p.lexeme)
 
 abbrev pub is_line_end_sort : Sort → Bool
 is_line_end_sort sort.line_end = true
@@ -51,7 +51,7 @@ reach_with_comment r = record r { ended = true }
 abbrev pub most_columns : ℕ → Reach → List SpacedToml → ℕ
 most_columns w r [] = w
 most_columns w r (p ∷ ps) =
-    cond (is_comment p) (cond r.holds (most_columns (max w r.columns) (reach_with_comment r) ps) w)
+    cond (is_comment_lexeme p) (cond r.holds (most_columns (max w r.columns) (reach_with_comment r) ps) w)
     (cond (ends_the_line p) (cond r.ended (most_columns w reach_start ps) w)
     (most_columns w (reach_past r p) ps))
 
@@ -70,7 +70,7 @@ most_here st ps = known_or st.most (most_columns st.reach.columns (reach_with_co
 
 -- the lexeme is a comment at the end of a line
 abbrev pub is_at_end : Standing → SpacedToml → Bool
-is_at_end st p = is_comment p && st.reach.holds
+is_at_end st p = is_comment_lexeme p && st.reach.holds
 
 -- by how many columns the lexeme is moved, in front of others
 abbrev pub moved_by : Standing → SpacedToml → List SpacedToml → Option ℕ

@@ -1,5 +1,5 @@
 -- The document of a TOML text, read off its lexemes from the left. What stands on a line, or in brackets, is a row of entries: a
--- part of a key or value, then a comma, then remarks. An entry is laid out once it is whole: its comma stands before its remarks.
+-- part of a key or value, then a comma, then comments. An entry is laid out once it is whole: its comma stands before its comments.
 use Rattle.std.specs.Prelude.{ℕ, pos, Bool, true, false, cond, ◌&&◌, ◌||◌, ◌==◌, List, [], ◌∷◌, Option, Some, None}
 use Rattle.std.specs.List.{list_any}
 use Rattle.prettyless.specs.Built.{append, group, nest, softline}
@@ -9,9 +9,9 @@ use Rattle.prettyless.specs.Tree.{Tree, Nil, TextWithLen, HardLine, ExpandParent
 use Rattle.toml_lexemes.specs.Bytes as byte
 use Rattle.toml_grammar.specs.Sorts as sort
 use Rattle.toml_grammar.specs.Sorts.{Sort, sort_of}
-use Rattle.toml_statements.specs.Statements.{trimmed}
-use Rattle.toml_formatter.specs.Gaps.{gap_before_part, gap_before_comma, gap_before_remark, gap_before_close}
-use Rattle.toml_formatter.specs.Kinds.{last_after_sort}
+use Rattle.toml_lexemes.specs.Statements.{trimmed}
+use Rattle.toml_formatter.specs.Gaps.{gap_before_text, gap_before_comma, gap_before_comment, gap_before_close}
+use Rattle.toml_formatter.specs.Kinds.{last_after_text}
 use Rattle.toml_formatter.specs.Lines.{may_hold}
 use Rattle.toml_formatter.specs.Numbers.{opened_kind}
 use Rattle.toml_formatter.specs.declared.gaps.Gap.{Gap}
@@ -48,9 +48,9 @@ is_line_feed_byte b = b == byte.line_feed
 abbrev pub lexeme_tree : List ℕ → Tree
 lexeme_tree s = broken_if (list_any is_line_feed_byte s) (counted.text s)
 
--- a remark without the blanks at its end, which counts no columns
-abbrev pub remark_tree : List ℕ → Tree
-remark_tree s = TextWithLen 0 (trimmed s)
+-- a comment without the blanks at its end, which counts no columns
+abbrev pub comment_tree : List ℕ → Tree
+comment_tree s = TextWithLen 0 (trimmed s)
 
 -- ---- entries
 
@@ -58,26 +58,26 @@ remark_tree s = TextWithLen 0 (trimmed s)
 pub record Part : Type 0 where
   -- a blank line is before it
   pub blank : Bool
-  -- the sort of its first lexeme
-  pub begins : Sort
+  -- its first lexeme
+  pub first : List ℕ
   pub tree : Tree
 
--- a remark
-pub record Remarked : Type 0 where
+-- a comment
+pub record Commented : Type 0 where
   -- a line end, and a blank line, is before it
   pub broken : Bool
   pub blank : Bool
-  pub remark : List ℕ
+  pub comment : List ℕ
 
--- a part, then a comma, then remarks; each may be missing
+-- a part, then a comma, then comments; each may be missing
 pub record RowEntry : Type 0 where
   pub part : Option Part
   pub comma : Bool
   -- the last one first
-  pub remarks : List Remarked
+  pub comments : List Commented
 
 abbrev pub no_entry : RowEntry
-no_entry = record { part = None; comma = false; remarks = [] }
+no_entry = record { part = None; comma = false; comments = [] }
 
 -- ---- the document of entries
 
@@ -97,7 +97,7 @@ is_some (x ∷ xs) = true
 abbrev pub after_part : Kind → End → Option Part → End
 after_part kind e None = e
 after_part kind e (Some p) =
-    record { tree = separated (gap_before_part kind e.last p.begins p.blank) e.tree p.tree; last = last_after_sort p.begins }
+    record { tree = separated (gap_before_text kind e.last p.first p.blank) e.tree p.tree; last = last_after_text p.first }
 
 -- with a comma after it, where there is one
 abbrev pub end_after_comma : Bool → End → End
@@ -105,21 +105,21 @@ end_after_comma false e = e
 end_after_comma true e =
     record { tree = separated (gap_before_comma e.last) e.tree (counted.text (byte.comma ∷ [])); last = last.Comma }
 
--- remarks, with the gap before them, after a part that ends so
-abbrev pub remarks_tree : Kind → Last → List Remarked → Tree
-remarks_tree kind l [] = Nil
-remarks_tree kind l (r ∷ rs) =
-    separated (gap_before_remark kind l (is_some rs) r.broken r.blank) (remarks_tree kind l rs) (remark_tree r.remark)
+-- comments, with the gap before them, after a part that ends so
+abbrev pub comments_tree : Kind → Last → List Commented → Tree
+comments_tree kind l [] = Nil
+comments_tree kind l (r ∷ rs) =
+    separated (gap_before_comment kind l (is_some rs) r.broken r.blank) (comments_tree kind l rs) (comment_tree r.comment)
 
--- with a document of remarks after it, where there is one
-abbrev pub after_remarks : Bool → Tree → End → End
-after_remarks false remarks e = e
-after_remarks true remarks e = record { tree = append e.tree remarks; last = last.Remark }
+-- with a document of comments after it, where there is one
+abbrev pub after_comments : Bool → Tree → End → End
+after_comments false comments e = e
+after_comments true comments e = record { tree = append e.tree comments; last = last.Comment }
 
--- with the comma and the remarks of an entry after its part
+-- with the comma and the comments of an entry after its part
 abbrev pub after_rest : Kind → RowEntry → End → End
 after_rest kind entry e =
-    after_remarks (is_some entry.remarks) (remarks_tree kind e.last entry.remarks) (end_after_comma entry.comma e)
+    after_comments (is_some entry.comments) (comments_tree kind e.last entry.comments) (end_after_comma entry.comma e)
 
 -- ---- levels
 
@@ -139,7 +139,7 @@ abbrev pub new_level : Kind → List ℕ → Level
 new_level kind opening =
     record { kind = kind; opening = opening; before = no_end; entry = no_entry; broken = false; blank = false }
 
--- its document without the comma and the remarks of the last entry
+-- its document without the comma and the comments of the last entry
 abbrev pub part_end : Level → End
 part_end lv = after_part lv.kind lv.before lv.entry.part
 
@@ -154,20 +154,20 @@ with_line_end lv = record lv { broken = true; blank = lv.broken }
 -- a comma is one of the last entry, unless that has one: then it begins an entry
 abbrev pub entry_with_comma : Bool → Level → Level
 entry_with_comma true lv =
-    record lv { before = level_end lv; entry = record { part = None; comma = true; remarks = [] }; broken = false; blank = false }
+    record lv { before = level_end lv; entry = record { part = None; comma = true; comments = [] }; broken = false; blank = false }
 entry_with_comma false lv = record lv { entry = record lv.entry { comma = true }; broken = false; blank = false }
 
 abbrev pub level_with_comma : Level → Level
 level_with_comma lv = entry_with_comma (lv.entry.comma || may_hold (part_end lv).last) lv
 
--- a remark is one of the last entry
-abbrev pub with_remark : Level → List ℕ → Level
-with_remark lv s =
+-- a comment is one of the last entry
+abbrev pub with_comment : Level → List ℕ → Level
+with_comment lv s =
     record lv {
       entry =
           record lv.entry {
-            remarks =
-                record { broken = lv.broken; blank = lv.blank; remark = s } ∷ lv.entry.remarks;
+            comments =
+                record { broken = lv.broken; blank = lv.blank; comment = s } ∷ lv.entry.comments;
           };
       broken = false;
       blank = false;
@@ -180,9 +180,9 @@ with_part lv s tree =
       before = level_end lv;
       entry =
           record {
-            part = Some (record { blank = lv.blank; begins = sort_of s; tree = tree });
+            part = Some (record { blank = lv.blank; first = s; tree = tree });
             comma = false;
-            remarks = [];
+            comments = [];
           };
       broken = false;
       blank = false;
@@ -203,13 +203,14 @@ ends_item last.Start = false
 ends_item last.Close = true
 ends_item last.Equals = true
 ends_item last.Word = true
+ends_item last.Dot = true
 ends_item last.String = true
 ends_item last.Comma = false
-ends_item last.Remark = false
+ends_item last.Comment = false
 
--- whether the comma of the last entry stands before a closing bracket: after an item only in front of remarks
+-- whether the comma of the last entry stands before a closing bracket: after an item only in front of comments
 abbrev pub comma_kept : Kind → Last → Bool → Bool → Bool
-comma_kept kind l comma remarked = cond (may_hold l) comma (is_array kind && (ends_item l && remarked))
+comma_kept kind l comma commented = cond (may_hold l) comma (is_array kind && (ends_item l && commented))
 
 -- with a comma after the last item where lines are broken, as they are where it has one already
 abbrev pub trailed_end : Bool → Bool → End → End
@@ -220,7 +221,7 @@ trailed_end true comma e =
 -- the document before a closing bracket
 abbrev pub closed_end : Level → End
 closed_end lv =
-    let comma = comma_kept lv.kind (part_end lv).last lv.entry.comma (is_some lv.entry.remarks) in
+    let comma = comma_kept lv.kind (part_end lv).last lv.entry.comma (is_some lv.entry.comments) in
     let e = after_rest lv.kind (record lv.entry { comma = comma }) (part_end lv) in
     trailed_end (is_array lv.kind && ends_item e.last) lv.entry.comma e
 
@@ -261,7 +262,7 @@ levels_with style sort.open_table first lv lvs s ss = new_level (opened_kind lv.
 levels_with style sort.close_array first lv lvs s ss = levels_closed style lv lvs s
 levels_with style sort.close_table first lv lvs s ss = levels_closed style lv lvs s
 levels_with style sort.comma first lv lvs s ss = level_with_comma lv ∷ lvs
-levels_with style sort.remark first lv lvs s ss = with_remark lv s ∷ lvs
+levels_with style sort.comment first lv lvs s ss = with_comment lv s ∷ lvs
 levels_with style k first lv lvs s ss = with_part lv s (lexeme_tree s) ∷ lvs
 
 -- the first lexeme of a statement
@@ -269,7 +270,7 @@ abbrev pub first_levels : Style → Sort → List ℕ → List (List ℕ) → Li
 first_levels style sort.close_array s ss = with_part new_statement s (counted.text s) ∷ []
 first_levels style sort.close_table s ss = with_part new_statement s (counted.text s) ∷ []
 first_levels style sort.comma s ss = with_part new_statement s (counted.text s) ∷ []
-first_levels style sort.remark s ss = with_part new_statement s (counted.text (trimmed s)) ∷ []
+first_levels style sort.comment s ss = with_part new_statement s (counted.text (trimmed s)) ∷ []
 first_levels style k s ss = levels_with style k true new_statement [] s ss
 
 -- ---- texts

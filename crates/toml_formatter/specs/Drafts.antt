@@ -3,7 +3,7 @@ use Rattle.std.specs.Prelude.{◌≡◌, ℕ, Bool, true, false, List, [], ◌�
 use Rattle.prettyless.specs.Tree.{Tree}
 use Rattle.prettyless.specs.Trees.{ref_tree}
 use Rattle.toml_grammar.specs.Sorts.{sort_of}
-use Rattle.toml_formatter.specs.Documents.{End, Level, Draft, end_after_comma, after_remarks, is_some, part_end, remarks_tree}
+use Rattle.toml_formatter.specs.Documents.{End, Level, Draft, end_after_comma, after_comments, is_some, part_end, comments_tree}
 use Rattle.toml_formatter.specs.Documents.{levels_with, with_part, draft_with_statement, document_from}
 use Rattle.toml_formatter.specs.declared.kind.Kind.{Kind}
 use Rattle.toml_formatter.specs.declared.kind.Kind.TheVariants.{Statement}
@@ -18,14 +18,14 @@ line_end line = record { tree = ref_tree line.doc; last = line.last }
 
 -- the same with what waits
 abbrev pub settled_end : Line → End
-settled_end line = after_remarks line.is_remarked (ref_tree line.remarks) (end_after_comma line.comma (line_end line))
+settled_end line = after_comments line.is_commented (ref_tree line.comments) (end_after_comma line.comma (line_end line))
 
--- The line is at this level: what waits in it is the comma and the remarks of the level's last entry.
+-- The line is at this level: what waits in it is the comma and the comments of the level's last entry.
 pub record Stands (lv : Level) (line : Line) : Type 0 where
   pub end : line_end line ≡ part_end lv
   pub comma : line.comma ≡ lv.entry.comma
-  pub remarked : line.is_remarked ≡ is_some lv.entry.remarks
-  pub remarks : line.is_remarked ≡ true → ref_tree line.remarks ≡ remarks_tree lv.kind line.last lv.entry.remarks
+  pub commented : line.is_commented ≡ is_some lv.entry.comments
+  pub comments : line.is_commented ≡ true → ref_tree line.comments ≡ comments_tree lv.kind line.last lv.entry.comments
   pub broken : line.broken ≡ lv.broken
   pub blank : line.blank ≡ lv.blank
 

@@ -11,7 +11,7 @@ use Rattle.toml_formatter.specs.Documents.{toml_document}
 use Rattle.toml_formatter.specs.declared.style.Style.{Style}
 use Rattle.toml_grammar.specs.Grammar.{is_toml}
 use Rattle.toml_grammar.specs.Nesting.{is_too_deep}
-use Rattle.toml_statements.specs.Statements.{statements}
+use Rattle.toml_lexemes.specs.Statements.{statements}
 use Rattle.toml_formatter.specs.Lines.{HasStatements}
 use Rattle.toml_formatter.specs.declared.error.FormatError.{FormatError}
 use Rattle.toml_formatter.specs.declared.error.FormatError.TheVariants.{NotToml, TooDeep, LayoutNotToml, Memory}

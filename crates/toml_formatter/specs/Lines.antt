@@ -5,13 +5,13 @@ use Rattle.prettyless.specs.Trees.{ref_tree}
 use Rattle.prettyless_pointers.specs.declared.arena.RefDoc.{RefDoc}
 use Rattle.prettyless_model.specs.Shows.{Item, Shown, shows, after_text, after_line}
 use Rattle.toml_lexemes.specs.Bytes.{comma, head, line_feed}
-use Rattle.toml_statements.specs.Statements.{a_remark, role, Collected, none_collected}
-use Rattle.toml_statements.specs.Statements.{line_ended, with_lexeme, with_lexemes, statements_of, statements}
-use Rattle.toml_statements.specs.Shown.{Stage, first_stage, IsInside, IsReady, AreRead, collected_at, least_between}
-use Rattle.toml_formatter.specs.Gaps.{least_needed, is_last_remark}
-use Rattle.toml_statements.specs.Sound.{LineEndsNext}
+use Rattle.toml_lexemes.specs.Statements.{a_comment, role, Collected, none_collected}
+use Rattle.toml_lexemes.specs.Statements.{line_ended, with_lexeme, with_lexemes, statements_of, statements}
+use Rattle.toml_lexemes.specs.Shown.{Stage, first_stage, IsInside, IsReady, AreRead, collected_at, least_between}
+use Rattle.toml_formatter.specs.Gaps.{least_needed, is_last_comment}
+use Rattle.toml_lexemes.specs.Sound.{LineEndsNext}
 use Rattle.toml_formatter.specs.declared.kind.Last.{Last}
-use Rattle.toml_formatter.specs.declared.kind.Last.TheVariants.{Start, Close, Equals, Word, String, Comma, Remark}
+use Rattle.toml_formatter.specs.declared.kind.Last.TheVariants.{Start, Close, Equals, Word, Dot, String, Comma, Comment}
 use Rattle.toml_formatter.specs.declared.line.Line.{Line}
 
 -- directly after a text
@@ -29,17 +29,18 @@ IsNested false c = ⊤
 
 -- nothing waits for what comes next
 abbrev pub HoldsNothing : Collected → Type 0
-HoldsNothing c = (c.comma ≡ false) × (c.remarks ≡ [])
+HoldsNothing c = (c.comma ≡ false) × (c.comments ≡ [])
 
--- nothing waits, unless a comma or a remark is last
+-- nothing waits, unless a comma or a comment is last
 abbrev pub HoldsNothingAfter : Last → Collected → Type 0
 HoldsNothingAfter Start c = HoldsNothing c
 HoldsNothingAfter Close c = HoldsNothing c
 HoldsNothingAfter Equals c = HoldsNothing c
 HoldsNothingAfter Word c = HoldsNothing c
+HoldsNothingAfter Dot c = HoldsNothing c
 HoldsNothingAfter String c = HoldsNothing c
 HoldsNothingAfter Comma c = ⊤
-HoldsNothingAfter Remark c = ⊤
+HoldsNothingAfter Comment c = ⊤
 
 -- the text needs this between it and a next one
 abbrev pub EndsAs : Last → List ℕ → Type 0
@@ -78,30 +79,30 @@ abbrev pub BeginsLine : Bool → Stage → Type 0
 BeginsLine true a = (c : Collected) × (t : List ℕ) × (a ≡ directly_after c t) × EndsCollected true Start c t
 BeginsLine false a = IsReady a
 
--- what waits: a comma, and remarks
+-- what waits: a comma, and comments
 abbrev pub waiting : Bool → List (List ℕ) → List (List ℕ)
 waiting false rs = rs
 waiting true rs = (comma ∷ []) ∷ rs
 
--- each is a remark
-abbrev pub AreRemarks : List (List ℕ) → Type 0
-AreRemarks [] = ⊤
-AreRemarks (s ∷ ss) = (role s ≡ a_remark) × AreRemarks ss
+-- each is a comment
+abbrev pub AreComments : List (List ℕ) → Type 0
+AreComments [] = ⊤
+AreComments (s ∷ ss) = (role s ≡ a_comment) × AreComments ss
 
--- items that are read as remarks, after what ends so or after a comma
-abbrev pub ReadsRemarks : Bool → Last → List (List ℕ) → List Item → Type 0
-ReadsRemarks nested last rs items =
+-- items that are read as comments, after what ends so or after a comma
+abbrev pub ReadsComments : Bool → Last → List (List ℕ) → List Item → Type 0
+ReadsComments nested last rs items =
     (c : Collected) (t : List ℕ) → EndsAs last t ⊎ EndsAs Comma t → IsNested nested c
-    → (u : List ℕ) × AreRead (directly_after c t) items (directly_after (with_lexemes c rs) u) × EndsAs Remark u
+    → (u : List ℕ) × AreRead (directly_after c t) items (directly_after (with_lexemes c rs) u) × EndsAs Comment u
 
--- remarks wait, where this says so
-abbrev pub WaitingRemarks : Bool → Bool → Last → List (List ℕ) → List Item → Type 0
-WaitingRemarks false nested last rs items = rs ≡ []
-WaitingRemarks true nested last rs items = AreRemarks rs × ReadsRemarks nested last rs items
+-- comments wait, where this says so
+abbrev pub WaitingComments : Bool → Bool → Last → List (List ℕ) → List Item → Type 0
+WaitingComments false nested last rs items = rs ≡ []
+WaitingComments true nested last rs items = AreComments rs × ReadsComments nested last rs items
 
 -- nothing of the text is left, and nothing waits
 abbrev pub IsOver : Line → List (List ℕ) → Type 0
-IsOver line left = (left ≡ []) × (line.comma ≡ false) × (line.is_remarked ≡ false)
+IsOver line left = (left ≡ []) × (line.comma ≡ false) × (line.is_commented ≡ false)
 
 -- the same is collected, where this says so but for a comma that waits
 abbrev pub Agrees : Bool → Collected → Collected → Type 0
@@ -121,36 +122,37 @@ pub record LineRead (nested exact : Bool) (line : Line) (left taken : List (List
 -- The line shows the lexemes that were taken, but for those that wait.
 pub record ShowsTaken (nested exact : Bool) (line : Line) (left taken : List (List ℕ)) : Type 0 where
   pub items : List Item
-  pub remark_items : List Item
+  pub comment_items : List Item
   pub rs : List (List ℕ)
   pub shown : shows (ref_tree line.doc) items
-  pub remarks_shown : shows (ref_tree line.remarks) remark_items
-  pub remarks : WaitingRemarks line.is_remarked nested line.last rs remark_items
+  pub comments_shown : shows (ref_tree line.comments) comment_items
+  pub comments : WaitingComments line.is_commented nested line.last rs comment_items
   pub read : (a : Stage) → BeginsLine nested a → LineRead nested exact line left taken items rs a
 
--- what ends so may have a comma or remarks that wait in it
+-- what ends so may have a comma or comments that wait in it
 abbrev pub may_hold : Last → Bool
 may_hold Start = false
 may_hold Close = false
 may_hold Equals = false
 may_hold Word = false
+may_hold Dot = false
 may_hold String = false
 may_hold Comma = true
-may_hold Remark = true
+may_hold Comment = true
 
--- outside of brackets nothing may come after a remark on its line
+-- outside of brackets nothing may come after a comment on its line
 abbrev pub TakesMore : Bool → Line → Type 0
 TakesMore true line = ⊤
-TakesMore false line = (line.is_remarked ≡ false) × (is_last_remark line.last ≡ false)
+TakesMore false line = (line.is_commented ≡ false) × (is_last_comment line.last ≡ false)
 
 -- a statement goes on where it may, or a line ends
 abbrev pub MayGoOn : Line → List (List ℕ) → Type 0
-MayGoOn line left = TakesMore false line ⊎ ((line.comma ≡ true → is_last_remark line.last ≡ false) × LineEndsNext left)
+MayGoOn line left = TakesMore false line ⊎ ((line.comma ≡ true → is_last_comment line.last ≡ false) × LineEndsNext left)
 
 -- a document that ends so, with nothing that waits
 abbrev pub begun : RefDoc → Last → Line
 begun doc last =
-    record { doc = doc; last = last; comma = false; is_remarked = false; remarks = doc; broken = false; blank = false }
+    record { doc = doc; last = last; comma = false; is_commented = false; comments = doc; broken = false; blank = false }
 
 -- ---- the end of a list
 

@@ -4,7 +4,7 @@ ghost use Rattle.toml_lexemes.specs.Lexemes.{toml_lexemes_of};
 ghost use Rattle.toml_lexemes.specs.View.{toml_text_of, HasTomlKind};
 ghost use Rattle.toml_formatter.specs.Kinds.{is_closing};
 ghost use Rattle.toml_formatter.specs.Lexing.{ClosesNext};
-ghost use Rattle.toml_statements.specs.Sound.{AreSound, IsSound, LineEndsNext};
+ghost use Rattle.toml_lexemes.specs.Sound.{AreSound, IsSound, LineEndsNext};
 
 use crate::kind::closes;
 use std::marker::Model;

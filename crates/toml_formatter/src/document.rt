@@ -5,7 +5,7 @@ ghost use Rattle.toml_lexemes.specs.Lexemes.{toml_lexemes_of};
 ghost use Rattle.toml_grammar.specs.Nesting.{is_too_deep};
 ghost use Rattle.toml_formatter.specs.Documents.{lines_with, toml_document};
 ghost use Rattle.toml_formatter.specs.Errors.{IsFormatMemory, IsRefusalOf};
-ghost use Rattle.toml_statements.specs.Sound.{AreSound};
+ghost use Rattle.toml_lexemes.specs.Sound.{AreSound};
 ghost use Rattle.toml_formatter.specs.Lines.{HasStatements, IsDocument, TakesStatement};
 
 use crate::ahead::Ahead;

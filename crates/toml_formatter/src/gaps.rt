@@ -1,10 +1,10 @@
 //! What is between two lexemes of a layout.
-ghost use Rattle.std.specs.Prelude.{◌≡◌, true, false};
+ghost use Rattle.std.specs.Prelude.{◌≡◌, ◌==◌, true, false};
 ghost use Rattle.prettyless_model.specs.Shows.{LineEnd, Spacing, more};
-ghost use Rattle.toml_lexemes.specs.Bytes.{comma, close_bracket, hash, head};
+ghost use Rattle.toml_lexemes.specs.Bytes.{comma, close_bracket, dot, hash, head};
 ghost use Rattle.toml_lexemes.specs.View.{toml_text_of, HasTomlKind};
 ghost use Rattle.toml_formatter.specs.Gaps as spec;
-ghost use Rattle.toml_formatter.specs.Gaps.{is_nested, is_last_remark, least_needed, least_of, stays, Suits};
+ghost use Rattle.toml_formatter.specs.Gaps.{is_nested, is_last_comment, least_needed, least_of, stays, Suits};
 ghost use Rattle.toml_formatter.specs.Kinds.{sort_for};
 
 use crate::kind::{Kind, Last};
@@ -64,16 +64,24 @@ fn edge(kind: Kind) -> Gap
     }
 }
 
-/// What is between two lexemes of one key or value.
+/// Whether the first byte of a word is a dot.
+fn begins_with_dot(word: &str) -> bool
+    ensures { result ≡ (head word.now == dot) }
+{
+    word.as_bytes().first().copied().unwrap_or(b' ') == b'.'
+}
+
+/// What is between two lexemes of one key or value. Beside a dot nothing is between words: in TOML they are those of a key.
 fn between(last: Last, next: Lexeme<'_>) -> Gap
     requires named { HasTomlKind next }
-    requires no_remark { is_last_remark last ≡ false }
+    requires no_comment { is_last_comment last ≡ false }
     ensures enough { more (least_needed last (head (toml_text_of next.entry))) (least_of result) ≡ least_of result }
     ensures stays { stays result ≡ true }
-    ensures gap { result ≡ spec.gap_on_line last (sort_for next.entry) }
+    ensures gap { result ≡ spec.gap_on_line last (sort_for next.entry) (head (toml_text_of next.entry) == dot) }
 {
     match (last, next) {
         (_, Lexeme::Equals) | (Last::Equals, _) => Gap::Space,
+        (Last::Word, Lexeme::Word(word)) if begins_with_dot(word) => Gap::Nothing,
         (Last::Word, Lexeme::Word(_)) | (Last::String, Lexeme::String(_)) => Gap::Space,
         _ => Gap::Nothing,
     }
@@ -82,14 +90,15 @@ fn between(last: Last, next: Lexeme<'_>) -> Gap
 /// What is before a lexeme that begins a value or goes on with one.
 pub(crate) fn before(kind: Kind, last: Last, next: Lexeme<'_>, blank: bool) -> Gap
     requires named { HasTomlKind next }
-    requires goes_on { is_nested kind ≡ false → is_last_remark last ≡ false }
+    requires goes_on { is_nested kind ≡ false → is_last_comment last ≡ false }
     ensures suits { Suits (is_nested kind) last (head (toml_text_of next.entry)) result }
-    ensures gap { result ≡ spec.gap_before_part kind last (sort_for next.entry) blank }
+    ensures gap { result
+        ≡ spec.gap_before_part kind last (sort_for next.entry) (head (toml_text_of next.entry) == dot) blank }
 {
     match last {
         Last::Start => edge(kind),
         Last::Comma => after_comma(kind, blank),
-        Last::Remark => line_break(blank),
+        Last::Comment => line_break(blank),
         _ => between(last, next),
     }
 }
@@ -97,27 +106,27 @@ pub(crate) fn before(kind: Kind, last: Last, next: Lexeme<'_>, blank: bool) -> G
 /// What is before a comma.
 pub(crate) fn before_comma(last: Last) -> Gap
     ensures enough { more (least_needed last comma) (least_of result) ≡ least_of result }
-    ensures stays { is_last_remark last ≡ false → stays result ≡ true }
+    ensures stays { is_last_comment last ≡ false → stays result ≡ true }
     ensures gap { result ≡ spec.gap_before_comma last }
 {
     match last {
-        Last::Remark => Gap::Break,
+        Last::Comment => Gap::Break,
         _ => Gap::Nothing,
     }
 }
 
-/// What is before a remark, which other remarks stand before or not.
-pub(crate) fn before_remark(kind: Kind, last: Last, others: bool, broken: bool, blank: bool) -> Gap
-    requires { is_nested kind ≡ false → is_last_remark last ≡ false }
+/// What is before a comment, which other comments stand before or not.
+pub(crate) fn before_comment(kind: Kind, last: Last, others: bool, broken: bool, blank: bool) -> Gap
+    requires { is_nested kind ≡ false → is_last_comment last ≡ false }
     ensures enough { more (least_needed last hash) (least_of result) ≡ least_of result }
     ensures others { others ≡ true → least_of result ≡ LineEnd }
     ensures stays { is_nested kind ≡ false → others ≡ false → stays result ≡ true }
     ensures spacing { more Spacing (least_of result) ≡ least_of result }
-    ensures gap { result ≡ spec.gap_before_remark kind last others broken blank }
+    ensures gap { result ≡ spec.gap_before_comment kind last others broken blank }
 {
     match (kind, last) {
         _ if others => line_break(blank),
-        (_, Last::Remark) => line_break(blank),
+        (_, Last::Comment) => line_break(blank),
         (Kind::Statement, _) => Gap::Beside,
         (_, Last::Start) if broken => Gap::Break,
         _ if broken => line_break(blank),
@@ -133,7 +142,7 @@ pub(crate) fn before_close(kind: Kind, last: Last) -> Gap
 {
     match last {
         Last::Start => Gap::Nothing,
-        Last::Remark => Gap::Break,
+        Last::Comment => Gap::Break,
         _ => edge(kind),
     }
 }

@@ -1,5 +1,6 @@
 //! What lexemes are to a layout.
 ghost use Rattle.std.specs.Prelude.{◌≡◌, true};
+ghost use Rattle.toml_lexemes.specs.Bytes as byte;
 ghost use Rattle.toml_formatter.specs.Kinds.{is_closing, is_opening, kind_in, last_after, sort_for};
 ghost use Rattle.toml_formatter.specs.Gaps.{is_nested};
 
@@ -29,9 +30,11 @@ pub(crate) enum Last {
     Close,
     Equals,
     Word,
+    /// A word that ends with a dot.
+    Dot,
     String,
     Comma,
-    Remark,
+    Comment,
 }
 
 /// Whether the lexeme opens a list.
@@ -48,11 +51,19 @@ pub(crate) fn closes(lexeme: Lexeme<'_>) -> bool
     matches!(lexeme, Lexeme::CloseArray | Lexeme::CloseTable)
 }
 
+/// Whether the last byte of a word is a dot.
+fn ends_with_dot(word: &str) -> bool
+    ensures { result ≡ byte.ends_with_dot word.now }
+{
+    word.as_bytes().last().copied().unwrap_or(b' ') == b'.'
+}
+
 /// What a document ends with after the value that this lexeme begins.
 pub(crate) fn last_of(lexeme: Lexeme<'_>) -> Last
     ensures { result ≡ last_after lexeme.entry }
 {
     match lexeme {
+        Lexeme::Word(word) if ends_with_dot(word) => Last::Dot,
         Lexeme::Word(_) => Last::Word,
         Lexeme::String(_) => Last::String,
         Lexeme::Equals => Last::Equals,

@@ -8,7 +8,7 @@ ghost use Rattle.toml_grammar.specs.Nesting.{is_too_deep};
 ghost use Rattle.toml_formatter.specs.Errors.{IsFormatMemory, IsRefusalOf};
 ghost use Rattle.toml_formatter.specs.Formats.{HasTomlOptions, IsFormattedToml, IsLaidToml, IsLaidTomlDocument};
 ghost use Rattle.toml_formatter.specs.Formats.{IsRefusedToml, IsTomlLayout, ShowsToml};
-ghost use Rattle.toml_statements.specs.Sound.{AreSound};
+ghost use Rattle.toml_lexemes.specs.Sound.{AreSound};
 
 use crate::alignment::aligned;
 use crate::document::document;
@@ -113,10 +113,10 @@ fn laid_out(alloc: Global, text: &str, style: Style) -> Result<String, FormatErr
 }
 
 /// The layout of a TOML text in this style. It is TOML too, and has the same statements: the same lexemes in the same
-/// order, remarks among them. Three things may differ: line ends in brackets, commas before closing brackets, and
-/// remarks before a comma, which stand after it. How it is laid out, its document says (`toml_document`), and comments are
-/// aligned where the style says so (`with_aligned_comments`). Its lines end as the first line of the text does that ends
-/// outside of strings. It ends with a line end, unless it is empty.
+/// order, comments among them. Four things may differ: line ends in brackets, commas before closing brackets, comments
+/// before a comma, which stand after it, and the blanks around the dots of keys, which go. How it is laid out, its document
+/// says (`toml_document`), and comments are aligned where the style says so (`with_aligned_comments`). Its lines end as the
+/// first line of the text does that ends outside of strings. It ends with a line end, unless it is empty.
 ///
 /// `NotToml` only where the text is no TOML, and `TooDeep` only where it is TOML and more than 128 brackets are in one
 /// another. `LayoutNotToml` only where the layout that was made is no TOML, which is judged before it is answered.

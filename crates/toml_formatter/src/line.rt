@@ -3,17 +3,18 @@ ghost use Rattle.std.specs.Prelude.{◌≡◌, ◌++◌, ◌⊎◌, ◌∷◌, [
 ghost use Rattle.prettyless.specs.Trees.{ref_tree};
 ghost use Rattle.toml_lexemes.specs.Bytes.{comma, hash, head, line_feed};
 ghost use Rattle.toml_lexemes.specs.View.{toml_text_of, HasTomlKind};
-ghost use Rattle.toml_statements.specs.Statements.{role, trimmed, a_closing};
-ghost use Rattle.toml_statements.specs.Shown.{IsWholeLexeme};
-ghost use Rattle.toml_formatter.specs.Gaps.{is_nested, is_last_remark};
+ghost use Rattle.toml_lexemes.specs.Statements.{role, trimmed, a_closing};
+ghost use Rattle.toml_lexemes.specs.Shown.{IsWholeLexeme};
+ghost use Rattle.toml_formatter.specs.Gaps.{is_nested, is_last_comment};
 ghost use Rattle.toml_formatter.specs.Documents as document;
-ghost use Rattle.toml_formatter.specs.Documents.{Level, end_after_comma, after_remarks, closed_end, comma_kept, ends_item, is_array};
+ghost use Rattle.toml_formatter.specs.Documents.{Level, end_after_comma, after_comments, closed_end, comma_kept, ends_item};
+ghost use Rattle.toml_formatter.specs.Documents.{is_array};
 ghost use Rattle.toml_formatter.specs.Drafts.{Stands, line_end, settled_end};
 ghost use Rattle.toml_formatter.specs.Kinds.{last_after, IsPart};
 ghost use Rattle.toml_formatter.specs.declared.kind.Kind.{Kind};
 ghost use Rattle.toml_formatter.specs.Lines.{begun, may_hold, IsValue, ShowsTaken, IsClosed, TakesMore};
 
-use crate::gaps::{before, before_comma, before_remark};
+use crate::gaps::{before, before_comma, before_comment};
 use crate::kind::{Kind, Last, last_of};
 use crate::parts::{apart, broken_if, trailed, uncounted};
 use crate::trim::trimmed;
@@ -22,7 +23,7 @@ use prettyless::{Arena, RefDoc};
 use prettyless_shapes::{joined, nil, text};
 use toml_lexemes::Lexeme;
 
-/// The lexemes of a line or of a list so far. A comma that was taken waits for what comes after it, and remarks wait for
+/// The lexemes of a line or of a list so far. A comma that was taken waits for what comes after it, and comments wait for
 /// whether a comma comes.
 #[derive(Clone, Copy)]
 pub(crate) struct Line<'a> {
@@ -31,19 +32,19 @@ pub(crate) struct Line<'a> {
     pub(crate) last: Last,
     /// Whether a comma waits.
     pub(crate) comma: bool,
-    /// Whether remarks wait, and their document.
-    pub(crate) is_remarked: bool,
-    pub(crate) remarks: RefDoc<'a>,
+    /// Whether comments wait, and their document.
+    pub(crate) is_commented: bool,
+    pub(crate) comments: RefDoc<'a>,
     /// Whether a line has ended since the last lexeme, and whether a blank line came.
     pub(crate) broken: bool,
     pub(crate) blank: bool,
 }
 
-/// Whether a comma or remarks may wait in a document that ends so.
+/// Whether a comma or comments may wait in a document that ends so.
 fn holds(last: Last) -> bool
     ensures { result ≡ may_hold last }
 {
-    matches!(last, Last::Comma | Last::Remark)
+    matches!(last, Last::Comma | Last::Comment)
 }
 
 impl<'a> Line<'a> {
@@ -55,8 +56,8 @@ impl<'a> Line<'a> {
             doc,
             last,
             comma: false,
-            is_remarked: false,
-            remarks: doc,
+            is_commented: false,
+            comments: doc,
             broken: false,
             blank: false,
         }
@@ -86,13 +87,13 @@ impl<'a> Line<'a> {
     /// The same with the comma that waits in its place.
     fn with_settled_comma(self, arena: &'a Arena<'a>) -> Result<Line<'a>, BuildError>
         ensures line { IfOk result (λ line. (nested exact : Bool) (left taken : List (List ℕ))
-            → (nested ≡ false → self.entry.comma ≡ true → is_last_remark self.entry.last ≡ false)
+            → (nested ≡ false → self.entry.comma ≡ true → is_last_comment self.entry.last ≡ false)
             → ShowsTaken nested exact self.entry left taken → ShowsTaken nested exact line left taken) }
         ensures no_comma { IfOk result (λ line. line.comma ≡ false) }
-        ensures remarked { IfOk result (λ line. line.is_remarked ≡ self.entry.is_remarked) }
-        ensures last { IfOk result (λ line. is_last_remark self.entry.last ≡ false → is_last_remark line.last ≡ false) }
+        ensures commented { IfOk result (λ line. line.is_commented ≡ self.entry.is_commented) }
+        ensures last { IfOk result (λ line. is_last_comment self.entry.last ≡ false → is_last_comment line.last ≡ false) }
         ensures end { IfOk result (λ line. line_end line ≡ end_after_comma self.entry.comma (line_end self.entry)) }
-        ensures remarks { IfOk result (λ line. line.remarks ≡ self.entry.remarks) }
+        ensures comments { IfOk result (λ line. line.comments ≡ self.entry.comments) }
         ensures blank { IfOk result (λ line. line.blank ≡ self.entry.blank) }
     {
         if !self.comma {
@@ -108,43 +109,43 @@ impl<'a> Line<'a> {
         })
     }
 
-    /// The same with the remarks that wait in their place, where no comma waits.
-    fn with_settled_remarks(self, arena: &'a Arena<'a>) -> Result<Line<'a>, BuildError>
+    /// The same with the comments that wait in their place, where no comma waits.
+    fn with_settled_comments(self, arena: &'a Arena<'a>) -> Result<Line<'a>, BuildError>
         ensures line { IfOk result (λ line. (nested exact : Bool) (left taken : List (List ℕ))
             → self.entry.comma ≡ false → ShowsTaken nested exact self.entry left taken → ShowsTaken nested exact line left taken) }
         ensures comma { IfOk result (λ line. line.comma ≡ self.entry.comma) }
-        ensures remarked { IfOk result (λ line. line.is_remarked ≡ false) }
-        ensures last { IfOk result (λ line. self.entry.is_remarked ≡ false → is_last_remark self.entry.last ≡ false
-            → is_last_remark line.last ≡ false) }
+        ensures commented { IfOk result (λ line. line.is_commented ≡ false) }
+        ensures last { IfOk result (λ line. self.entry.is_commented ≡ false → is_last_comment self.entry.last ≡ false
+            → is_last_comment line.last ≡ false) }
         ensures end { IfOk result (λ line. line_end line
-            ≡ after_remarks self.entry.is_remarked (ref_tree self.entry.remarks) (line_end self.entry)) }
+            ≡ after_comments self.entry.is_commented (ref_tree self.entry.comments) (line_end self.entry)) }
         ensures blank { IfOk result (λ line. line.blank ≡ self.entry.blank) }
     {
-        if !self.is_remarked {
+        if !self.is_commented {
             return Ok(self);
         }
-        let doc = joined(arena, self.doc, self.remarks)?;
+        let doc = joined(arena, self.doc, self.comments)?;
         Ok(Line {
             doc,
-            last: Last::Remark,
-            is_remarked: false,
+            last: Last::Comment,
+            is_commented: false,
             ..self
         })
     }
 
-    /// The same with the comma and the remarks that wait in their places.
+    /// The same with the comma and the comments that wait in their places.
     pub(crate) fn settled(self, arena: &'a Arena<'a>) -> Result<Line<'a>, BuildError>
         ensures line { IfOk result (λ line. (nested exact : Bool) (left taken : List (List ℕ))
-            → (nested ≡ false → self.entry.comma ≡ true → is_last_remark self.entry.last ≡ false)
+            → (nested ≡ false → self.entry.comma ≡ true → is_last_comment self.entry.last ≡ false)
             → ShowsTaken nested exact self.entry left taken → ShowsTaken nested exact line left taken) }
         ensures no_comma { IfOk result (λ line. line.comma ≡ false) }
-        ensures no_remarks { IfOk result (λ line. line.is_remarked ≡ false) }
-        ensures last { IfOk result (λ line. self.entry.is_remarked ≡ false → is_last_remark self.entry.last ≡ false
-            → is_last_remark line.last ≡ false) }
+        ensures no_comments { IfOk result (λ line. line.is_commented ≡ false) }
+        ensures last { IfOk result (λ line. self.entry.is_commented ≡ false → is_last_comment self.entry.last ≡ false
+            → is_last_comment line.last ≡ false) }
         ensures end { IfOk result (λ line. line_end line ≡ settled_end self.entry) }
         ensures blank { IfOk result (λ line. line.blank ≡ self.entry.blank) }
     {
-        self.with_settled_comma(arena)?.with_settled_remarks(arena)
+        self.with_settled_comma(arena)?.with_settled_comments(arena)
     }
 
     /// Whether what waits is put in its place before a comma is taken.
@@ -157,11 +158,11 @@ impl<'a> Line<'a> {
     /// The same with a comma that waits.
     fn with_waiting_comma(self) -> Line<'a>
         ensures line { (nested : Bool) (left taken : List (List ℕ)) → self.entry.comma ≡ false
-            → (self.entry.is_remarked ≡ false) ⊎ (may_hold self.entry.last ≡ false)
+            → (self.entry.is_commented ≡ false) ⊎ (may_hold self.entry.last ≡ false)
             → ShowsTaken nested true self.entry ((comma ∷ []) ∷ left) taken
             → ShowsTaken nested true result left (taken ++ (comma ∷ []) ∷ []) }
         ensures last { result.last ≡ self.entry.last }
-        ensures remarked { result.is_remarked ≡ self.entry.is_remarked }
+        ensures commented { result.is_commented ≡ self.entry.is_commented }
         ensures made { result ≡ record self.entry { comma = true; broken = false; blank = false } }
     {
         Line {
@@ -186,44 +187,44 @@ impl<'a> Line<'a> {
         Ok(self.with_waiting_comma())
     }
 
-    /// The same with these remarks that wait.
-    fn with_remarks(self, remarks: RefDoc<'a>) -> Line<'a>
-        ensures { result ≡ record self.entry { is_remarked = true; remarks = remarks.entry; broken = false; blank = false } }
+    /// The same with these comments that wait.
+    fn with_comments(self, comments: RefDoc<'a>) -> Line<'a>
+        ensures { result ≡ record self.entry { is_commented = true; comments = comments.entry; broken = false; blank = false } }
     {
         Line {
-            is_remarked: true,
-            remarks,
+            is_commented: true,
+            comments,
             broken: false,
             blank: false,
             ..self
         }
     }
 
-    /// The same with a remark taken.
-    pub(crate) fn with_remark(
+    /// The same with a comment taken.
+    pub(crate) fn with_comment(
         self,
         arena: &'a Arena<'a>,
         kind: Kind,
-        remark: &'a str,
+        comment: &'a str,
     ) -> Result<Line<'a>, BuildError>
         requires goes_on { TakesMore (is_nested kind) self }
-        requires whole { IsWholeLexeme (trimmed remark.now) }
-        requires remark { head remark.now ≡ hash }
+        requires whole { IsWholeLexeme (trimmed comment.now) }
+        requires comment { head comment.now ≡ hash }
         ensures line { IfOk result (λ line. (left taken : List (List ℕ))
-            → ShowsTaken (is_nested kind) true self.entry (remark.now ∷ left) taken
-            → ShowsTaken (is_nested kind) true line left (taken ++ remark.now ∷ [])) }
+            → ShowsTaken (is_nested kind) true self.entry (comment.now ∷ left) taken
+            → ShowsTaken (is_nested kind) true line left (taken ++ comment.now ∷ [])) }
         ensures last { IfOk result (λ line. line.last ≡ self.entry.last) }
         ensures stands { IfOk result (λ line. (lv : Level) → lv.kind ≡ kind → Stands lv self.entry
-            → Stands (document.with_remark lv remark.now) line) }
+            → Stands (document.with_comment lv comment.now) line) }
     {
-        let gap = before_remark(kind, self.last, self.is_remarked, self.broken, self.blank);
-        let remark = uncounted(arena, trimmed(remark))?;
-        if self.is_remarked {
-            let remarks = apart(arena, self.remarks, gap, remark)?;
-            return Ok(self.with_remarks(remarks));
+        let gap = before_comment(kind, self.last, self.is_commented, self.broken, self.blank);
+        let comment = uncounted(arena, trimmed(comment))?;
+        if self.is_commented {
+            let comments = apart(arena, self.comments, gap, comment)?;
+            return Ok(self.with_comments(comments));
         }
-        let remarks = apart(arena, nil(arena)?, gap, remark)?;
-        Ok(self.with_remarks(remarks))
+        let comments = apart(arena, nil(arena)?, gap, comment)?;
+        Ok(self.with_comments(comments))
     }
 
     /// The same with a document that begins with this lexeme.
@@ -258,15 +259,17 @@ impl<'a> Line<'a> {
         })
     }
 
-    /// Whether the comma that waits, or one that may be added, stands in front of the remarks before a closing bracket.
+    /// Whether the comma that waits, or one that may be added, stands in front of the comments before a closing bracket.
     fn keeps_comma(self, kind: Kind) -> bool
         ensures held { may_hold self.entry.last ≡ true → result ≡ self.entry.comma }
-        ensures kept { result ≡ comma_kept kind self.entry.last self.entry.comma self.entry.is_remarked }
+        ensures kept { result ≡ comma_kept kind self.entry.last self.entry.comma self.entry.is_commented }
     {
         match (kind, self.last) {
-            (_, Last::Comma | Last::Remark) => self.comma,
-            (Kind::Array | Kind::Numbers, Last::Close | Last::Equals | Last::Word | Last::String) =>
-                self.is_remarked,
+            (_, Last::Comma | Last::Comment) => self.comma,
+            (
+                Kind::Array | Kind::Numbers,
+                Last::Close | Last::Equals | Last::Word | Last::Dot | Last::String,
+            ) => self.is_commented,
             _ => false,
         }
     }
@@ -281,17 +284,17 @@ impl<'a> Line<'a> {
             (kind, self.last),
             (
                 Kind::Array | Kind::Numbers,
-                Last::Close | Last::Equals | Last::Word | Last::String
+                Last::Close | Last::Equals | Last::Word | Last::Dot | Last::String
             )
         )
     }
 
-    /// The same as it stands before a closing bracket: with its remarks in their place, and a comma in front of them or at the
+    /// The same as it stands before a closing bracket: with its comments in their place, and a comma in front of them or at the
     /// end where an array is broken. An array with a comma after its last item is.
     pub(crate) fn closed(self, arena: &'a Arena<'a>, kind: Kind) -> Result<Line<'a>, BuildError>
-        requires { is_nested kind ≡ false → is_last_remark self.last ≡ false }
-        ensures last { IfOk result (λ line. self.entry.is_remarked ≡ false → is_last_remark self.entry.last ≡ false
-            → is_last_remark line.last ≡ false) }
+        requires { is_nested kind ≡ false → is_last_comment self.last ≡ false }
+        ensures last { IfOk result (λ line. self.entry.is_commented ≡ false → is_last_comment self.entry.last ≡ false
+            → is_last_comment line.last ≡ false) }
         ensures closed { IfOk result (λ line. (x : List ℕ) (left taken : List (List ℕ)) → role x ≡ a_closing
             → ShowsTaken (is_nested kind) true self.entry (x ∷ left) taken → IsClosed (is_nested kind) line x taken) }
         ensures end { IfOk result (λ line. (lv : Level) → lv.kind ≡ kind → Stands lv self.entry → line_end line ≡ closed_end lv) }

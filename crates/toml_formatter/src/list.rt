@@ -9,7 +9,7 @@ ghost use Rattle.toml_formatter.specs.Errors.{IsFormatMemory, IsRefusalWithin};
 ghost use Rattle.toml_formatter.specs.Gaps.{is_nested};
 ghost use Rattle.toml_formatter.specs.Kinds.{is_closing, is_opening, last_after, IsPart};
 ghost use Rattle.toml_formatter.specs.Lexing.{ClosesNext};
-ghost use Rattle.toml_statements.specs.Sound.{IsSound};
+ghost use Rattle.toml_lexemes.specs.Sound.{IsSound};
 ghost use Rattle.toml_formatter.specs.Lines.{IsValue, ShowsTaken, TakesLine, TakesValue};
 
 use crate::ahead::Ahead;
@@ -172,7 +172,7 @@ fn with_next<'a>(
     match next {
         Lexeme::LineEnd => Ok(line.with_line_end()),
         Lexeme::Comma => Ok(line.with_comma(setting.arena)?),
-        Lexeme::Remark(remark) => Ok(line.with_remark(setting.arena, kind, remark)?),
+        Lexeme::Comment(comment) => Ok(line.with_comment(setting.arena, kind, comment)?),
         _ => {
             let value = value(setting, lexemes, kind, false, next, depth)?;
             Ok(line.with_value(setting.arena, kind, next, value)?)

@@ -52,11 +52,11 @@ fn columns(text: &str) -> usize
     }
 }
 
-fn is_comment(found: Spaced<'_>) -> bool
+fn is_comment_lexeme(found: Spaced<'_>) -> bool
     requires { IsNamedIf found.lexeme }
-    ensures { result ≡ spec.is_comment (spaced_of found.entry) }
+    ensures { result ≡ spec.is_comment_lexeme (spaced_of found.entry) }
 {
-    matches!(found.lexeme, Some(Lexeme::Remark(_)))
+    matches!(found.lexeme, Some(Lexeme::Comment(_)))
 }
 
 fn ends_the_line(found: Spaced<'_>) -> bool
@@ -101,7 +101,7 @@ fn most_columns(mut lexemes: SpacedLexer<'_>, first: Reach) -> usize
     let mut most = first.columns;
     let mut reach = first.with_comment();
     while let Some(found) = lexemes.next() {
-        if is_comment(found) {
+        if is_comment_lexeme(found) {
             if !reach.holds {
                 return most;
             }
@@ -141,7 +141,7 @@ impl Standing {
         ensures moved { result.1 ≡ spec.moved_by self (spaced_of found.entry) lexemes.now }
     {
         let reach = self.reach;
-        if is_comment(found) && reach.holds {
+        if is_comment_lexeme(found) && reach.holds {
             let most = self.most_here(lexemes);
             let standing = Standing {
                 reach: reach.with_comment(),

@@ -11,7 +11,7 @@ ghost use Rattle.toml_formatter.specs.Drafts.{ReadsFirst, ReadsOn, ReadsStatemen
 ghost use Rattle.toml_formatter.specs.declared.kind.Kind.TheVariants.{Statement};
 ghost use Rattle.toml_formatter.specs.Errors.{IsFormatMemory, IsRefusalWithin};
 ghost use Rattle.toml_formatter.specs.Kinds.{is_closing};
-ghost use Rattle.toml_statements.specs.Sound.{IsSound, LineEndsNext};
+ghost use Rattle.toml_lexemes.specs.Sound.{IsSound, LineEndsNext};
 ghost use Rattle.toml_formatter.specs.Lines.{TakesMore, ShowsTaken, MayGoOn, TakesStatement};
 
 use crate::ahead::Ahead;
@@ -72,7 +72,7 @@ fn begun<'a>(
     }
     match first {
         Lexeme::Comma => Ok(Line::begun(text(arena, ",")?, Last::Comma)),
-        Lexeme::Remark(remark) => Ok(Line::begun(text(arena, trimmed(remark))?, Last::Remark)),
+        Lexeme::Comment(comment) => Ok(Line::begun(text(arena, trimmed(comment))?, Last::Comment)),
         _ => {
             let value = value(setting, lexemes, Kind::Statement, true, first, MAX_DEPTH)?;
             Ok(Line::begun(value, last_of(first)))
@@ -109,7 +109,7 @@ fn with_next<'a>(
     }
     match next {
         Lexeme::Comma => Ok(line.with_comma(arena)?),
-        Lexeme::Remark(remark) => Ok(line.with_remark(arena, kind, remark)?),
+        Lexeme::Comment(comment) => Ok(line.with_comment(arena, kind, comment)?),
         _ => {
             let value = value(setting, lexemes, kind, false, next, MAX_DEPTH)?;
             Ok(line.with_value(arena, kind, next, value)?)

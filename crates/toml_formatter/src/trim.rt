@@ -1,6 +1,6 @@
 ghost use Rattle.std.specs.Prelude.{◌≡◌};
 ghost use Rattle.toml_lexemes.specs.Bytes.{is_blank};
-ghost use Rattle.toml_statements.specs.Statements.{trimmed};
+ghost use Rattle.toml_lexemes.specs.Statements.{trimmed};
 
 /// Whether the byte is a blank.
 fn is_blank(byte: u8) -> bool

@@ -1,4 +1,4 @@
--- The strings and remarks of a text that is TOML are those that TOML allows.
+-- The strings and comments of a text that is TOML are those that TOML allows.
 use Rattle.std.proofs.Common.{◌≡◌, ℕ, ◌+◌, Bool, true, false, cond, ◌==◌, ◌⊎◌, inl, inr, List, [], ◌∷◌, length, drop, Option, Some, None}
 use Rattle.std.proofs.Common.{Result, Ok, Err, All, refl, sym, ap, subst, arith}
 use Rattle.std.specs.Prelude.{⊤, is_ok}
@@ -7,11 +7,11 @@ use Rattle.std.proofs.lemmas.List.Elements.{All-from_recursion}
 use Rattle.toml_lexemes.specs.Bytes.{is_quote, hash, head}
 use Rattle.toml_lexemes.specs.Lexemes.{toml_lexemes_of}
 use Rattle.toml_lexemes.specs.SpacedLexemes.{SpacedToml, after_toml_gap, blanks, toml_spaced_as}
-use Rattle.toml_words.specs.Remarks.{is_remark}
-use Rattle.toml_words.specs.Strings.{is_key_string, is_string}
-use Rattle.toml_words.proofs.Closed.{key_strings_are_strings}
+use Rattle.toml_grammar.specs.Comments.{is_comment}
+use Rattle.toml_grammar.specs.Strings.{is_key_string, is_string}
+use Rattle.toml_grammar.proofs.Closed.{key_strings_are_strings}
 use Rattle.toml_grammar.specs.Sorts as sort
-use Rattle.toml_grammar.specs.Grammar.{Reading, first_reading, where_so, string_turn, remark_after, remark_turn, sort_turn, is_line_end}
+use Rattle.toml_grammar.specs.Grammar.{Reading, first_reading, where_so, string_turn, comment_after, comment_turn, sort_turn, is_line_end}
 use Rattle.toml_grammar.specs.Grammar.{is_clear, turn_of_lexeme, innermost, turned, lexeme_step, then_lexemes, reading_after, is_toml}
 use Rattle.toml_grammar.specs.declared.expected.Expected.{Expected}
 use Rattle.toml_grammar.specs.declared.next.Bracket.{Bracket}
@@ -60,30 +60,30 @@ string_passes Entry b s h = key_passes s _ _ h
 string_passes After b s h = absurd h
 string_passes AfterDate b s h = absurd h
 
--- ---- remarks
+-- ---- comments
 
-remarked_passes : (n : Next) (b : Option Bracket) (ok : Bool) → Passes (remark_after n b ok) → ok ≡ true
-remarked_passes n None ok h = passes_where ok _ _ h
-remarked_passes n (Some Array) ok h = passes_where ok _ _ h
-remarked_passes n (Some Table) ok h = absurd h
+commented_passes : (n : Next) (b : Option Bracket) (ok : Bool) → Passes (comment_after n b ok) → ok ≡ true
+commented_passes n None ok h = passes_where ok _ _ h
+commented_passes n (Some Array) ok h = passes_where ok _ _ h
+commented_passes n (Some Table) ok h = absurd h
 
-remark_passes : (n : Next) (b : Option Bracket) (ok : Bool) → Passes (remark_turn n b ok) → ok ≡ true
-remark_passes Line b ok h = passes_where ok _ _ h
-remark_passes Header b ok h = absurd h
-remark_passes (Key o due) b ok h = absurd h
-remark_passes Closing b ok h = absurd h
-remark_passes Value b ok h = absurd h
-remark_passes Member b ok h = passes_where ok _ _ h
-remark_passes Entry b ok h = absurd h
-remark_passes After b ok h = remarked_passes After b ok h
-remark_passes AfterDate b ok h = remarked_passes AfterDate b ok h
+comment_passes : (n : Next) (b : Option Bracket) (ok : Bool) → Passes (comment_turn n b ok) → ok ≡ true
+comment_passes Line b ok h = passes_where ok _ _ h
+comment_passes Header b ok h = absurd h
+comment_passes (Key o due) b ok h = absurd h
+comment_passes Closing b ok h = absurd h
+comment_passes Value b ok h = absurd h
+comment_passes Member b ok h = passes_where ok _ _ h
+comment_passes Entry b ok h = absurd h
+comment_passes After b ok h = commented_passes After b ok h
+comment_passes AfterDate b ok h = commented_passes AfterDate b ok h
 
 -- ---- lexemes
 
--- a lexeme that is a string or a remark is one that TOML allows
+-- a lexeme that is a string or a comment is one that TOML allows
 pub record IsAllowed (s : List ℕ) : Type 0 where
   pub if_string : sort.sort_of s ≡ sort.string → is_string s ≡ true
-  pub if_remark : sort.sort_of s ≡ sort.remark → is_remark s ≡ true
+  pub if_comment : sort.sort_of s ≡ sort.comment → is_comment s ≡ true
 
 allowed_step : (r t : Reading) (p : SpacedToml) → lexeme_step r p ≡ Ok t → IsAllowed p.lexeme
 allowed_step r t p e =
@@ -93,7 +93,7 @@ allowed_step r t p e =
     passes_cond (is_clear p.gap (is_line_end (sort.sort_of p.lexeme))) _ _ (passes_turned r.open_brackets (turn_of_lexeme n b p) t e) in
     record {
       if_string = λ is. string_passes n b p.lexeme (subst (λ x. Passes (sort_turn x n b p.gap p.lexeme)) is passes);
-      if_remark = λ is. remark_passes n b (is_remark p.lexeme) (subst (λ x. Passes (sort_turn x n b p.gap p.lexeme)) is passes);
+      if_comment = λ is. comment_passes n b (is_comment p.lexeme) (subst (λ x. Passes (sort_turn x n b p.gap p.lexeme)) is passes);
     }
 
 abbrev AreAllowed : List (List ℕ) → Type 0
@@ -130,6 +130,6 @@ pub sort_string : (s : List ℕ) → is_quote (head s) ≡ true → sort.sort_of
 sort_string [] h = absurd (true≢false (sym h))
 sort_string (x ∷ xs) h = sort_quote x h
 
-pub sort_remark : (s : List ℕ) → head s ≡ hash → sort.sort_of s ≡ sort.remark
-sort_remark [] h = absurd (omega arith)
-sort_remark (x ∷ xs) h = ap sort.sort_by h
+pub sort_comment : (s : List ℕ) → head s ≡ hash → sort.sort_of s ≡ sort.comment
+sort_comment [] h = absurd (omega arith)
+sort_comment (x ∷ xs) h = ap sort.sort_by h

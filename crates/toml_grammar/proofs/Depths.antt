@@ -18,9 +18,9 @@ pub depth_step : (s : List ℕ) (ss : List (List ℕ)) (n m : ℕ) → depth_aft
 depth_step s ss n m e h =
     ap (λ k. ltb max_brackets k || nest_too_deep k ss) e ∙ ap (λ b. b || nest_too_deep m ss) (le-ltb max_brackets m h)
 
-pub remark_depth : (s : List ℕ) → head s ≡ hash → (n : ℕ) → depth_after (sort_of s) n ≡ n
-remark_depth [] e n = refl
-remark_depth (x ∷ xs) e n = ap (λ b. depth_after (sort_by b) n) e
+pub comment_depth : (s : List ℕ) → head s ≡ hash → (n : ℕ) → depth_after (sort_of s) n ≡ n
+comment_depth [] e n = refl
+comment_depth (x ∷ xs) e n = ap (λ b. depth_after (sort_by b) n) e
 
 pub string_depth : (s : List ℕ) → is_quote (head s) ≡ true → (n : ℕ) → depth_after (sort_of s) n ≡ n
 string_depth [] e n = refl
@@ -44,7 +44,7 @@ word_depth (x ∷ xs) e n =
     let l = or_parts (x == 91) (x == 93) k.0 in
     λ j. depth_after (cond (l.0 j) sort.open_array (cond (l.1 j) sort.close_array (cond (k.1 j) sort.open_table
     (cond (h.1 j) sort.close_table (cond (g.1 j) sort.comma (cond (f.1 j) sort.equals (cond (b.1 j) sort.line_end
-    (cond (a.1 j) sort.remark (cond (c.1 j) sort.string sort.word))))))))) n
+    (cond (a.1 j) sort.comment (cond (c.1 j) sort.string sort.word))))))))) n
 
 -- ---- lexemes of a text
 

@@ -1,3 +1,7 @@
+mod Digits
+pub mod Closed
+pub mod Comments
+pub mod WordStops
 mod Cuts
 mod Opening
 mod Refused

@@ -3,7 +3,7 @@ use Rattle.std.specs.Prelude.{ℕ, List, codes}
 use Rattle.toml_grammar.specs.declared.expected.Expected.{Expected}
 use Rattle.toml_grammar.specs.declared.expected.Expected.TheVariants.{Line, Key, DotOrEquals, DotOrBracket, DotOrBrackets, Bracket, Value}
 use Rattle.toml_grammar.specs.declared.expected.Expected.TheVariants.{ValueOrBracket, KeyOrBrace, CommaOrBracket, CommaOrBrace, LineEnd}
-use Rattle.toml_grammar.specs.declared.expected.Expected.TheVariants.{LineFeed, String, KeyString, Remark, OneLine, Quote, Quotes}
+use Rattle.toml_grammar.specs.declared.expected.Expected.TheVariants.{LineFeed, String, KeyString, Comment, OneLine, Quote, Quotes}
 use Rattle.toml_grammar.specs.declared.expected.Expected.TheVariants.{Escape, Digit, Scalar, Plain}
 
 -- the name
@@ -23,7 +23,7 @@ expected_name LineEnd = codes "the end of the line"
 expected_name LineFeed = codes "a line feed after the carriage return"
 expected_name String = codes "a closed string with valid escapes and no control characters"
 expected_name KeyString = codes "a closed string of one line with valid escapes and no control characters"
-expected_name Remark = codes "a comment without control characters"
+expected_name Comment = codes "a comment without control characters"
 expected_name OneLine = codes "a string of one line"
 expected_name Quote = codes "a closing quote"
 expected_name Quotes = codes "three closing quotes"

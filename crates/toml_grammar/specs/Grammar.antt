@@ -4,12 +4,12 @@ use Rattle.std.specs.Prelude.{Result, Ok, Err, is_ok, slice_get}
 use Rattle.std.specs.List.{list_all}
 use Rattle.toml_lexemes.specs.Bytes.{blank_space, carriage_return}
 use Rattle.toml_lexemes.specs.SpacedLexemes.{SpacedToml, toml_spaced_lexemes}
-use Rattle.toml_words.specs.Dates.{is_date, is_time}
-use Rattle.toml_words.specs.Keys.{key_word}
-use Rattle.toml_words.specs.Remarks.{is_remark}
-use Rattle.toml_words.specs.Strings.{is_key_string, is_string}
-use Rattle.toml_words.specs.Values.{is_value}
-use Rattle.toml_grammar.specs.Sorts.{Sort, open_array, close_array, open_table, close_table, comma, equals, line_end, remark, string, word}
+use Rattle.toml_grammar.specs.Dates.{is_date, is_time}
+use Rattle.toml_grammar.specs.Keys.{key_word}
+use Rattle.toml_grammar.specs.Comments.{is_comment}
+use Rattle.toml_grammar.specs.Strings.{is_key_string, is_string}
+use Rattle.toml_grammar.specs.Values.{is_value}
+use Rattle.toml_grammar.specs.Sorts.{Sort, open_array, close_array, open_table, close_table, comma, equals, line_end, comment, string, word}
 use Rattle.toml_grammar.specs.Sorts.{text_end, sort_of}
 use Rattle.toml_grammar.specs.declared.expected.Expected.{Expected}
 use Rattle.toml_grammar.specs.declared.expected.Expected.TheVariants as want
@@ -148,18 +148,18 @@ line_end_turn After b = line_end_after After b
 line_end_turn AfterDate b = line_end_after AfterDate b
 line_end_turn n b = Stops (expected n b)
 
--- what a remark after a value leads to: none is directly in an inline table
-abbrev pub remark_after : Next → Option Bracket → Bool → LexemeTurn
-remark_after n (Some bracket.Table) ok = Stops (expected n (Some bracket.Table))
-remark_after n b ok = where_so ok After want.Remark
+-- what a comment after a value leads to: none is directly in an inline table
+abbrev pub comment_after : Next → Option Bracket → Bool → LexemeTurn
+comment_after n (Some bracket.Table) ok = Stops (expected n (Some bracket.Table))
+comment_after n b ok = where_so ok After want.Comment
 
--- a remark, which TOML allows or not
-abbrev pub remark_turn : Next → Option Bracket → Bool → LexemeTurn
-remark_turn Line b ok = where_so ok Line want.Remark
-remark_turn Member b ok = where_so ok Member want.Remark
-remark_turn After b ok = remark_after After b ok
-remark_turn AfterDate b ok = remark_after AfterDate b ok
-remark_turn n b ok = Stops (expected n b)
+-- a comment, which TOML allows or not
+abbrev pub comment_turn : Next → Option Bracket → Bool → LexemeTurn
+comment_turn Line b ok = where_so ok Line want.Comment
+comment_turn Member b ok = where_so ok Member want.Comment
+comment_turn After b ok = comment_after After b ok
+comment_turn AfterDate b ok = comment_after AfterDate b ok
+comment_turn n b ok = Stops (expected n b)
 
 -- a string is a part of a key where one is due, or a value
 abbrev pub string_turn : Next → Option Bracket → List ℕ → LexemeTurn
@@ -212,7 +212,7 @@ sort_turn close_table n b g s = close_table_turn n b
 sort_turn comma n b g s = comma_turn n b
 sort_turn equals n b g s = equals_turn n b
 sort_turn line_end n b g s = line_end_turn n b
-sort_turn remark n b g s = remark_turn n b (is_remark s)
+sort_turn comment n b g s = comment_turn n b (is_comment s)
 sort_turn string n b g s = string_turn n b s
 sort_turn word n b g s = word_turn n b g s
 sort_turn text_end n b g s = end_turn n b

@@ -9,14 +9,14 @@ use Rattle.toml_grammar.specs.Grammar.{is_toml}
 abbrev pub IsClosedIfString : List ℕ → Type 0
 IsClosedIfString s = is_quote (head s) ≡ true → (x : ℕ) (xs : List ℕ) → is_quote x ≡ false → MayFollow s (x ∷ xs)
 
--- a lexeme that is a remark holds no CR
-abbrev pub IsClearIfRemark : List ℕ → Type 0
-IsClearIfRemark s = head s ≡ hash → All (λ x. x ≢ carriage_return) s
+-- a lexeme that is a comment holds no CR
+abbrev pub IsClearIfComment : List ℕ → Type 0
+IsClearIfComment s = head s ≡ hash → All (λ x. x ≢ carriage_return) s
 
 -- the strings of a TOML text are closed
 abbrev pub StringsOfTomlAreClosed : Type 0
 StringsOfTomlAreClosed = (text : List ℕ) → is_toml text ≡ true → All IsClosedIfString (toml_lexemes_of text)
 
--- the remarks of a TOML text hold no CR
-abbrev pub RemarksOfTomlAreClear : Type 0
-RemarksOfTomlAreClear = (text : List ℕ) → is_toml text ≡ true → All IsClearIfRemark (toml_lexemes_of text)
+-- the comments of a TOML text hold no CR
+abbrev pub CommentsOfTomlAreClear : Type 0
+CommentsOfTomlAreClear = (text : List ℕ) → is_toml text ≡ true → All IsClearIfComment (toml_lexemes_of text)

@@ -1,3 +1,12 @@
+pub mod Bytes
+pub mod Keys
+pub mod Numbers
+pub mod Dates
+pub mod Values
+pub mod Strings
+pub mod Comments
+pub mod WordLaws
+pub mod WordStops
 pub mod Sorts
 pub mod Grammar
 pub mod Expected

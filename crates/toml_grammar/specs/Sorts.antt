@@ -2,7 +2,7 @@
 use Rattle.std.specs.Prelude.{ℕ, List, [], ◌∷◌, cond, ◌==◌}
 use Rattle.toml_lexemes.specs.Bytes as byte
 
--- the sorts of lexemes: a sign, a line end, a remark, a string or a word; or the end of the text, where there is none
+-- the sorts of lexemes: a sign, a line end, a comment, a string or a word; or the end of the text, where there is none
 pub data Sort : Type 0 where
   open_array : Sort
   close_array : Sort
@@ -11,7 +11,7 @@ pub data Sort : Type 0 where
   comma : Sort
   equals : Sort
   line_end : Sort
-  remark : Sort
+  comment : Sort
   string : Sort
   word : Sort
   text_end : Sort
@@ -26,7 +26,7 @@ sort_by x =
     (cond (x == byte.comma) comma
     (cond (x == byte.equals) equals
     (cond (x == byte.line_feed) line_end
-    (cond (x == byte.hash) remark
+    (cond (x == byte.hash) comment
     (cond (byte.is_quote x) string word))))))))
 
 -- the sort of a lexeme

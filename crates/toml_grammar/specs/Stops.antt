@@ -4,10 +4,10 @@ use Rattle.std.specs.Borrow.{Bor}
 use Rattle.std.specs.List.{prefix_len}
 use Rattle.toml_lexemes.specs.declared.lexeme.Lexeme.{Lexeme}
 use Rattle.toml_lexemes.specs.declared.lexeme.Lexeme.TheVariants as lexeme
-use Rattle.toml_words.specs.Bytes.{is_non_eol}
-use Rattle.toml_words.specs.Stops.{string_stop}
-use Rattle.toml_words.specs.declared.stop.StringDue.{StringDue}
-use Rattle.toml_words.specs.declared.stop.StringDue.TheVariants as due
+use Rattle.toml_grammar.specs.Bytes.{is_non_eol}
+use Rattle.toml_grammar.specs.WordStops.{string_stop}
+use Rattle.toml_grammar.specs.declared.word_stop.StringDue.{StringDue}
+use Rattle.toml_grammar.specs.declared.word_stop.StringDue.TheVariants as due
 use Rattle.toml_grammar.specs.declared.expected.Expected.{Expected}
 use Rattle.toml_grammar.specs.declared.expected.Expected.TheVariants as want
 use Rattle.toml_grammar.specs.declared.fault.Fault.{Fault}
@@ -67,11 +67,11 @@ in_key_by s stop e = stop
 abbrev pub in_key_string : Bor (List ℕ) → Bool → Stop
 in_key_string s is_last = let stop = in_string s.now is_last in in_key_by s stop stop.expected
 
--- ---- in a remark
+-- ---- in a comment
 
 -- at its first control character
-abbrev pub in_remark : List ℕ → Stop
-in_remark s =
+abbrev pub in_comment : List ℕ → Stop
+in_comment s =
     let within = prefix_len is_non_eol s in
     record { within = within; expected = want.Plain; found = found.Letter (slice_index s within) }
 
@@ -89,7 +89,7 @@ at_beginning e x = record { within = 0; expected = e; found = found_where e x }
 abbrev pub stop_by : Expected → Option Lexeme → Bool → Stop
 stop_by want.String (Some (lexeme.String s)) is_last = in_string s.now is_last
 stop_by want.KeyString (Some (lexeme.String s)) is_last = in_key_string s is_last
-stop_by want.Remark (Some (lexeme.Remark s)) is_last = in_remark s.now
+stop_by want.Comment (Some (lexeme.Comment s)) is_last = in_comment s.now
 stop_by e x is_last = at_beginning e x
 
 -- where a text stops at a fault, whose lexeme is the last one of the text or not

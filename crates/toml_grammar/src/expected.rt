@@ -5,7 +5,7 @@ ghost use Rattle.toml_grammar.specs.Expected.{expected_name};
 /// What was expected.
 #[derive(Clone, Copy, Debug, PartialEq, Eq)]
 pub enum Expected {
-    /// What begins a line: a key, a header, a remark, or nothing.
+    /// What begins a line: a key, a header, a comment, or nothing.
     Line,
     /// The first part of a key, or the part after a dot.
     Key,
@@ -27,7 +27,7 @@ pub enum Expected {
     CommaOrBracket,
     /// What follows a value of an inline table.
     CommaOrBrace,
-    /// What follows a header, or a value outside of brackets: a line end, a remark or the end.
+    /// What follows a header, or a value outside of brackets: a line end, a comment or the end.
     LineEnd,
     /// A line feed after a CR.
     LineFeed,
@@ -35,8 +35,8 @@ pub enum Expected {
     String,
     /// A string that TOML allows as a part of a key.
     KeyString,
-    /// A remark that TOML allows.
-    Remark,
+    /// A comment that TOML allows.
+    Comment,
     /// A string of one line, as a part of a key.
     OneLine,
     /// The quote that closes a string of one line.
@@ -75,7 +75,7 @@ impl Expected {
             Expected::String => "a closed string with valid escapes and no control characters",
             Expected::KeyString =>
                 "a closed string of one line with valid escapes and no control characters",
-            Expected::Remark => "a comment without control characters",
+            Expected::Comment => "a comment without control characters",
             Expected::OneLine => "a string of one line",
             Expected::Quote => "a closing quote",
             Expected::Quotes => "three closing quotes",

@@ -4,8 +4,8 @@ ghost use Rattle.toml_grammar.specs.Stops as spec;
 
 use crate::expected::Expected;
 use crate::fault::Fault;
+use crate::word_stop::{StringDue, comment_stop, string_stop};
 use toml_lexemes::Lexeme;
-use toml_words::{StringDue, remark_stop, string_stop};
 
 /// What stands where something else was expected.
 #[derive(Clone, Copy, Drop)]
@@ -14,7 +14,7 @@ pub enum Found<'t> {
     Byte,
     /// This lexeme.
     Lexeme(Lexeme<'t>),
-    /// This byte of a string or a remark.
+    /// This byte of a string or a comment.
     Letter(u8),
     /// A backslash in a string, and this byte after it.
     Escape(u8),
@@ -113,11 +113,11 @@ fn in_key_string<'t>(text: &'t str, is_last: bool) -> Stop<'t>
     }
 }
 
-/// Where a remark stops being one of TOML.
-fn in_remark<'t>(text: &'t str) -> Stop<'t>
-    ensures { result ≡ spec.in_remark text.now }
+/// Where a comment stops being one of TOML.
+fn in_comment<'t>(text: &'t str) -> Stop<'t>
+    ensures { result ≡ spec.in_comment text.now }
 {
-    let within = remark_stop(text);
+    let within = comment_stop(text);
     Stop {
         within,
         expected: Expected::Plain,
@@ -132,7 +132,7 @@ pub(crate) fn stop_of(fault: Fault<'_>, is_last: bool) -> Stop<'_>
     match (fault.expected, fault.found) {
         (Expected::String, Some(Lexeme::String(text))) => in_string(text, is_last),
         (Expected::KeyString, Some(Lexeme::String(text))) => in_key_string(text, is_last),
-        (Expected::Remark, Some(Lexeme::Remark(text))) => in_remark(text),
+        (Expected::Comment, Some(Lexeme::Comment(text))) => in_comment(text),
         (expected, found) => Stop {
             within: 0,
             expected,

@@ -2,15 +2,19 @@
 ghost use Rattle.std.specs.Prelude.{◌≡◌, false};
 ghost use Rattle.toml_grammar.specs.Grammar as spec;
 ghost use Rattle.toml_grammar.specs.Sorts.{sort_of};
-ghost use Rattle.toml_words.specs.Keys.{key_word};
-ghost use Rattle.toml_words.specs.Strings.{is_key_string};
+ghost use Rattle.toml_grammar.specs.Keys.{key_word};
+ghost use Rattle.toml_grammar.specs.Strings.{is_key_string};
 ghost use Rattle.toml_lexemes.specs.SpacedLexer.{spaced_of, IsNamedIf};
 
+use crate::comment::is_comment;
+use crate::date::{is_date, is_time};
 use crate::expected::Expected;
 use crate::gap::{is_clear, is_one_space};
+use crate::key::key_word;
 use crate::next::{Bracket, Next, Owner};
+use crate::string::{is_key_string, is_string};
+use crate::value::is_value;
 use toml_lexemes::{Lexeme, Spaced};
-use toml_words::{is_date, is_key_string, is_remark, is_string, is_time, is_value, key_word};
 
 /// What a lexeme does.
 #[derive(Clone, Copy, Debug, PartialEq, Eq)]
@@ -171,16 +175,16 @@ fn line_end(next: Next, innermost: Option<Bracket>) -> LexemeTurn
     }
 }
 
-/// What a remark does, which TOML allows or not.
-fn remark(next: Next, innermost: Option<Bracket>, allowed: bool) -> LexemeTurn
-    ensures { result ≡ spec.remark_turn next innermost allowed }
+/// What a comment does, which TOML allows or not.
+fn comment(next: Next, innermost: Option<Bracket>, allowed: bool) -> LexemeTurn
+    ensures { result ≡ spec.comment_turn next innermost allowed }
 {
     match (next, innermost) {
-        (Next::Line | Next::Member, _) => where_so(allowed, next, Expected::Remark),
+        (Next::Line | Next::Member, _) => where_so(allowed, next, Expected::Comment),
         (Next::After | Next::AfterDate, None | Some(Bracket::Array)) => where_so(
             allowed,
             Next::After,
-            Expected::Remark,
+            Expected::Comment,
         ),
         _ => LexemeTurn::Stops(expected(next, innermost)),
     }
@@ -271,7 +275,7 @@ fn lexeme_turn(next: Next, innermost: Option<Bracket>, found: Spaced<'_>) -> Lex
         Some(Lexeme::Comma) => comma(next, innermost),
         Some(Lexeme::Equals) => equals(next, innermost),
         Some(Lexeme::LineEnd) => line_end(next, innermost),
-        Some(Lexeme::Remark(text)) => remark(next, innermost, is_remark(text)),
+        Some(Lexeme::Comment(text)) => comment(next, innermost, is_comment(text)),
         Some(Lexeme::String(text)) => string(next, innermost, text),
         Some(Lexeme::Word(text)) => word(next, innermost, found.gap, text),
     }

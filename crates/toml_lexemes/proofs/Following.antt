@@ -3,7 +3,8 @@ use Rattle.std.proofs.Common.{◌≡◌, ◌≢◌, ◌↔◌, ℕ, Bool, true, 
 use Rattle.std.proofs.Common.{subst}
 use Rattle.std.proofs.lemmas.Bool.{cond_both, true≢false, ne_eqb, or_parts, eqb-true}
 use Rattle.toml_lexemes.specs.Bytes.{is_sign, is_blank, is_quote, ends_word, head}
-use Rattle.toml_lexemes.specs.Lexemes.{StringKind, basic, literal, quote_mark, escapes, Inner, in_word, in_remark, opened, doubled, in_line}
+use Rattle.toml_lexemes.specs.Lexemes.{StringKind, basic, literal, quote_mark, escapes, Inner, in_word, in_comment, opened, doubled}
+use Rattle.toml_lexemes.specs.Lexemes.{in_line}
 use Rattle.toml_lexemes.specs.Lexemes.{in_line_escape, in_lines, in_lines_escape, closing, closing_more, closed}
 use Rattle.toml_lexemes.specs.Lexemes.{closed_more, LexerMode, between}
 use Rattle.toml_lexemes.specs.Lexemes.{within, passed, alone, begins, first, ByteTurn, goes_on, stops, line_turn, lines_turn, turn}
@@ -48,7 +49,7 @@ opened_line_feed literal b = refl
 -- where a byte stops, a line feed does
 stop_at_line_feed : (i : Inner) (x : ℕ) (b c : Bool) → turn i x b ≡ stops → turn i 10 c ≡ stops
 stop_at_line_feed in_word x b c e = refl
-stop_at_line_feed in_remark x b c e = refl
+stop_at_line_feed in_comment x b c e = refl
 stop_at_line_feed (opened k) x b c e = opened_line_feed k c
 stop_at_line_feed (doubled k) x b c e = no_mark k _ 10 refl
 stop_at_line_feed (in_line k) x b c e = refl
@@ -60,10 +61,10 @@ stop_at_line_feed (closing_more k) x b c e = absurd (by_test ⊥ (x == quote_mar
 stop_at_line_feed (closed k) x b c e = no_mark k _ 10 refl
 stop_at_line_feed (closed_more k) x b c e = no_mark k _ 10 refl
 
--- in a remark only a line end stops
-remark_stop : (p : Bool) → cond p stops (goes_on in_remark) ≡ stops → p ≡ true
-remark_stop true e = refl
-remark_stop false e = cc
+-- in a comment only a line end stops
+comment_stop : (p : Bool) → cond p stops (goes_on in_comment) ≡ stops → p ≡ true
+comment_stop true e = refl
+comment_stop false e = cc
 
 left : (p q : Bool) → (p || q) ≡ false → p ≡ true → ⊥
 left p q h e = true≢false (sym e ∙ (or_parts p q h).0)
@@ -72,7 +73,7 @@ left p q h e = true≢false (sym e ∙ (or_parts p q h).0)
 stop_at_blank : (i : Inner) (x y : ℕ) (b c : Bool) → ((x == 10) || ((x == 13) && b)) ≡ false → ends_word y ≡ true → is_quote y ≡ false
     → turn i x b ≡ stops → turn i y c ≡ stops
 stop_at_blank in_word x y b c n w q e = ap (λ t. cond t stops (goes_on in_word)) w
-stop_at_blank in_remark x y b c n w q e = absurd (true≢false (sym (remark_stop _ e) ∙ n))
+stop_at_blank in_comment x y b c n w q e = absurd (true≢false (sym (comment_stop _ e) ∙ n))
 stop_at_blank (opened k) x y b c n w q e =
     absurd (left (x == 10) _ n (by_test _ (x == quote_mark k) _ _ (λ f h. cc) (λ f. line_stop k x) e))
 stop_at_blank (doubled k) x y b c n w q e = no_mark k _ y q
@@ -87,10 +88,10 @@ stop_at_blank (closed_more k) x y b c n w q e = no_mark k _ y q
 
 -- the byte after it matters to a CR alone
 same_stop : (i : Inner) (x : ℕ) (b c : Bool) → x ≢ 13 → turn i x b ≡ stops → turn i x c ≡ stops
-same_stop in_remark x b c n e =
-    let cr : (d : Bool) → turn in_remark x d ≡ turn in_remark x false =
-    λ d. ap (λ p. cond ((x == 10) || (p && d)) stops (goes_on in_remark)) (ne_eqb x 13 n)
-    ∙ sym (ap (λ p. cond ((x == 10) || (p && false)) stops (goes_on in_remark)) (ne_eqb x 13 n)) in
+same_stop in_comment x b c n e =
+    let cr : (d : Bool) → turn in_comment x d ≡ turn in_comment x false =
+    λ d. ap (λ p. cond ((x == 10) || (p && d)) stops (goes_on in_comment)) (ne_eqb x 13 n)
+    ∙ sym (ap (λ p. cond ((x == 10) || (p && false)) stops (goes_on in_comment)) (ne_eqb x 13 n)) in
     cr c ∙ sym (cr b) ∙ e
 same_stop i x b c n e = e
 
@@ -115,7 +116,7 @@ module _ (x : ℕ) (xs : List ℕ) where
   blank_may_follow s y ys n w q h =
       record {
         ended = ends_at_blank (mode_after between s) y ys n w q h.ended;
-        apart = λ m is. absurd (true≢false (sym (remark_stop _ (subst (λ m. EndsBefore m (x ∷ xs)) m h.ended)) ∙ n));
+        apart = λ m is. absurd (true≢false (sym (comment_stop _ (subst (λ m. EndsBefore m (x ∷ xs)) m h.ended)) ∙ n));
       }
 
   ends_at_first : (m : LexerMode) (ys : List ℕ) → x ≢ 13 → EndsBefore m (x ∷ xs) → EndsBefore m (x ∷ ys)
@@ -125,7 +126,7 @@ module _ (x : ℕ) (xs : List ℕ) where
   pub first_byte_decides : (s ys : List ℕ) → x ≢ 13 → MayFollow s (x ∷ xs) → MayFollow s (x ∷ ys)
   first_byte_decides s ys n h = record { ended = ends_at_first (mode_after between s) ys n h.ended; apart = h.apart }
 
--- ---- words and remarks
+-- ---- words and comments
 
 -- a lexeme that is in a mode stays in it, where any other byte would stop it
 module _ (i : Inner) (stays : (x : ℕ) (b : Bool) → (turn i x b ≡ stops) ⊎ (turn i x b ≡ goes_on i)) where
@@ -152,14 +153,14 @@ either : (p : Bool) (i : Inner) → (cond p stops (goes_on i) ≡ stops) ⊎ (co
 either true i = inl refl
 either false i = inr refl
 
-first_word : (x : ℕ) → ends_word x ≡ false → first x ≡ begins in_word
+pub first_word : (x : ℕ) → ends_word x ≡ false → first x ≡ begins in_word
 first_word x h =
     let a = or_parts (is_sign x || is_blank x || is_quote x || (x == 10)) (x == 35) h in
     let b = or_parts (is_sign x || is_blank x || is_quote x) (x == 10) a.0 in
     let c = or_parts (is_sign x || is_blank x) (is_quote x) b.0 in
     let d = or_parts (is_sign x) (is_blank x) c.0 in
     let q = or_parts (x == 34) (x == 39) c.1 in
-    λ j. cond (d.1 j) passed (cond (d.0 j || b.1 j) alone (cond (a.1 j) (begins in_remark)
+    λ j. cond (d.1 j) passed (cond (d.0 j || b.1 j) alone (cond (a.1 j) (begins in_comment)
     (cond (q.0 j) (begins (opened basic)) (cond (q.1 j) (begins (opened literal)) (begins in_word)))))
 
 word_stop : (p : Bool) → cond p stops (goes_on in_word) ≡ stops → p ≡ true
@@ -179,7 +180,7 @@ after_word s (y ∷ ys) mode = (
   λ h. word_stop (ends_word y) (subst (λ m. EndsBefore m (y ∷ ys)) mode h.ended),
   λ e. record {
     ended = subst (λ m. EndsBefore m (y ∷ ys)) (sym mode) (ap (λ p. cond p stops (goes_on in_word)) e);
-    apart = λ m is. let clash : within in_word ≡ within in_remark = sym mode ∙ m in cc;
+    apart = λ m is. let clash : within in_word ≡ within in_comment = sym mode ∙ m in cc;
   },
 )
 
@@ -189,26 +190,26 @@ words_are_ended [] r h e = absurd (no_lexeme h)
 words_are_ended (x ∷ s) r h e =
     after_word (x ∷ s) r (mode_left in_word (λ y b. either (ends_word y) in_word) x s (first_word x e) h)
 
-after_remark : (s : List ℕ) (y : ℕ) (ys : List ℕ) → mode_after between s ≡ within in_remark
+after_comment : (s : List ℕ) (y : ℕ) (ys : List ℕ) → mode_after between s ≡ within in_comment
     → MayFollow s (y ∷ ys) ↔ ((begins_line_end (y ∷ ys) ≡ true) × (EndsWithReturn s → y ≢ 10))
-after_remark s y ys mode = (
+after_comment s y ys mode = (
   λ h. (
-    remark_stop _ (subst (λ m. EndsBefore m (y ∷ ys)) mode h.ended),
+    comment_stop _ (subst (λ m. EndsBefore m (y ∷ ys)) mode h.ended),
     λ is e. true≢false (subst (λ z. (z == 10) ≡ false) e (h.apart mode is)),
   ),
   λ (e, differs). record {
-    ended = subst (λ m. EndsBefore m (y ∷ ys)) (sym mode) (ap (λ p. cond p stops (goes_on in_remark)) e);
+    ended = subst (λ m. EndsBefore m (y ∷ ys)) (sym mode) (ap (λ p. cond p stops (goes_on in_comment)) e);
     apart = λ m is. ne_eqb y 10 (differs is);
   },
 )
 
-pub remarks_are_ended : (s : List ℕ) (y : ℕ) (ys : List ℕ) → cut_toml between s ≡ s ∷ [] → head s ≡ 35
+pub comments_are_ended : (s : List ℕ) (y : ℕ) (ys : List ℕ) → cut_toml between s ≡ s ∷ [] → head s ≡ 35
     → MayFollow s (y ∷ ys) ↔ ((begins_line_end (y ∷ ys) ≡ true) × (EndsWithReturn s → y ≢ 10))
-remarks_are_ended [] y ys h e = absurd (no_lexeme h)
-remarks_are_ended (x ∷ s) y ys h e =
-    after_remark (x ∷ s) y ys
-    (mode_left in_remark (λ z b. either ((z == 10) || ((z == 13) && b)) in_remark) x s
-    (subst (λ z. first z ≡ begins in_remark) (sym e) refl) h)
+comments_are_ended [] y ys h e = absurd (no_lexeme h)
+comments_are_ended (x ∷ s) y ys h e =
+    after_comment (x ∷ s) y ys
+    (mode_left in_comment (λ z b. either ((z == 10) || ((z == 13) && b)) in_comment) x s
+    (subst (λ z. first z ≡ begins in_comment) (sym e) refl) h)
 
 -- ---- signs
 

@@ -4,17 +4,17 @@ use Rattle.std.specs.Prelude.{⊤, ◌≢◌}
 use Rattle.std.proofs.lemmas.Bool.{cond_both}
 use Rattle.std.proofs.lemmas.List.Elements.{All-from_recursion}
 use Rattle.toml_lexemes.specs.Bytes.{is_blank, is_sign}
-use Rattle.toml_lexemes.specs.Lexemes.{Inner, in_remark, LexerMode, between, within, First, passed, alone, begins}
+use Rattle.toml_lexemes.specs.Lexemes.{Inner, in_comment, LexerMode, between, within, First, passed, alone, begins}
 use Rattle.toml_lexemes.specs.Lexemes.{first, ByteTurn, goes_on, ends}
 use Rattle.toml_lexemes.specs.Lexemes.{stops, turn, begins_line_feed, lengthened_toml, cut_first, cut_turn, cut_toml}
 use Rattle.toml_lexemes.specs.Spaced.{IsSpacedToml, mode_first, mode_turn, mode_after, EndsBefore, EndsWithReturn, MayFollow, IsWellSpaced}
-use Rattle.toml_lexemes.proofs.Remarks.{From, From-turn, last_turn, no_line_feed}
+use Rattle.toml_lexemes.proofs.CommentTurns.{From, From-turn, last_turn, no_line_feed}
 
 -- what is left of a lexeme that is read in the mode i, before the rest of the text
 pub record IsPart (i : Inner) (s rest : List ℕ) : Type 0 where
   pub whole : cut_toml (within i) s ≡ s ∷ []
   pub ended : EndsBefore (mode_after (within i) s) rest
-  pub apart : mode_after (within i) s ≡ within in_remark → EndsWithReturn s → begins_line_feed rest ≡ false
+  pub apart : mode_after (within i) s ≡ within in_comment → EndsWithReturn s → begins_line_feed rest ≡ false
 
 abbrev AreLexemes : List (List ℕ) → Type 0
 AreLexemes [] = ⊤
@@ -44,9 +44,9 @@ part_more i n x [] rest e h =
       whole = ap (λ t. cut_turn t (first x) x (λ m. cut_toml m [])) here;
       ended = subst (λ m. EndsBefore m rest) (sym (ap mode_turn here)) h.ended;
       apart = λ m is.
-          let same : within n ≡ within in_remark = sym (ap mode_turn here) ∙ m in
-          let remark : n ≡ in_remark = cc in
-          let begun = subst (From i) e (From-turn i x (begins_line_feed rest)) remark in
+          let same : within n ≡ within in_comment = sym (ap mode_turn here) ∙ m in
+          let comment : n ≡ in_comment = cc in
+          let begun = subst (From i) e (From-turn i x (begins_line_feed rest)) comment in
           no_line_feed x (begins_line_feed rest) (goes_on n) (subst (λ j. turn j x (begins_line_feed rest) ≡ goes_on n) begun e)
           (λ f. cc) is;
     }
@@ -64,7 +64,7 @@ part_end i x xs e =
     record {
       whole = ap (λ t. cut_turn t (first x) x (λ m. cut_toml m [])) here;
       ended = subst (λ m. EndsBefore m xs) (sym (ap mode_turn here)) (any_bytes xs);
-      apart = λ m is. let clash : between ≡ within in_remark = sym (ap mode_turn here) ∙ m in cc;
+      apart = λ m is. let clash : between ≡ within in_comment = sym (ap mode_turn here) ∙ m in cc;
     }
 
 part_none : (i : Inner) (rest : List ℕ) → EndsBefore (within i) rest → IsPart i [] rest
@@ -101,7 +101,7 @@ pub follows_one : (x : ℕ) (xs : List ℕ) → first x ≡ alone → MayFollow 
 follows_one x xs e =
     record {
       ended = subst (λ m. EndsBefore m xs) (sym (ap mode_first e)) (any_bytes xs);
-      apart = λ m is. let clash : between ≡ within in_remark = sym (ap mode_first e) ∙ m in cc;
+      apart = λ m is. let clash : between ≡ within in_comment = sym (ap mode_first e) ∙ m in cc;
     }
 
 follows_begun : (x : ℕ) (i : Inner) (s rest : List ℕ) → first x ≡ begins i → IsPart i s rest → MayFollow (x ∷ s) rest

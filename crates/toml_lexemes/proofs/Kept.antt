@@ -3,13 +3,13 @@ use Rattle.std.proofs.Common.{◌≡◌, ℕ, false, List, [], ◌∷◌, ◌++�
 use Rattle.std.proofs.Common.{length-append}
 use Rattle.std.specs.Prelude.{⊤}
 use Rattle.std.proofs.lemmas.List.Elements.{All-head, All-tail}
-use Rattle.toml_lexemes.specs.Lexemes.{Inner, in_remark, LexerMode, between, within, First, passed, alone, begins}
+use Rattle.toml_lexemes.specs.Lexemes.{Inner, in_comment, LexerMode, between, within, First, passed, alone, begins}
 use Rattle.toml_lexemes.specs.Lexemes.{first, ByteTurn, goes_on, ends}
 use Rattle.toml_lexemes.specs.Lexemes.{stops, turn, begins_line_feed, lengthened_toml, cut_first, cut_turn, cut_toml}
 use Rattle.toml_lexemes.specs.Spaced.{IsTomlGap, IsSpacedToml, mode_first, mode_turn, mode_after, EndsBefore, EndsWithReturn, MayFollow}
 use Rattle.toml_lexemes.specs.Spaced.{IsWellSpaced}
 use Rattle.toml_lexemes.proofs.Firsts.{cut_begun, first_blank}
-use Rattle.toml_lexemes.proofs.Remarks.{more_turn}
+use Rattle.toml_lexemes.proofs.CommentTurns.{more_turn}
 use Rattle.toml_lexemes.proofs.Gaps.{IsPart, IsSpaced-lexemes}
 
 -- ---- a byte in front of a lexeme
@@ -18,7 +18,7 @@ abbrev pub IsSome : List (List ℕ) → Type 0
 IsSome [] = ⊥
 IsSome (s ∷ ss) = ⊤
 
-some_more : (x : ℕ) (ss : List (List ℕ)) → IsSome (lengthened_toml x ss)
+pub some_more : (x : ℕ) (ss : List (List ℕ)) → IsSome (lengthened_toml x ss)
 some_more x [] = tt
 some_more x (s ∷ ss) = tt
 
@@ -52,7 +52,7 @@ stopped i (x ∷ xs) e = cut_turned i x xs stops e
 same_turn : (i : Inner) (x : ℕ) (s rest : List ℕ) (t : ByteTurn) → turn i x (begins_line_feed s) ≡ t → IsPart i (x ∷ s) rest
     → turn i x (begins_line_feed (s ++ rest)) ≡ t
 same_turn i x [] rest t e h =
-    more_turn i x (begins_line_feed rest) t e (λ remark is. h.apart (ap₂ (λ j y. mode_turn (turn j y false)) remark is) is)
+    more_turn i x (begins_line_feed rest) t e (λ comment is. h.apart (ap₂ (λ j y. mode_turn (turn j y false)) comment is) is)
 same_turn i x (y ∷ ys) rest t e h = e
 
 part_less : (i n : Inner) (x : ℕ) (s rest : List ℕ) → turn i x (begins_line_feed s) ≡ goes_on n → IsPart i (x ∷ s) rest → IsPart n s rest
@@ -64,8 +64,8 @@ part_less i n x s rest e h =
     }
   where
     left : (s : List ℕ) → turn i x (begins_line_feed s) ≡ goes_on n
-        → (mode_after (within i) (x ∷ s) ≡ within in_remark → EndsWithReturn (x ∷ s) → begins_line_feed rest ≡ false)
-        → mode_after (within n) s ≡ within in_remark → EndsWithReturn s → begins_line_feed rest ≡ false
+        → (mode_after (within i) (x ∷ s) ≡ within in_comment → EndsWithReturn (x ∷ s) → begins_line_feed rest ≡ false)
+        → mode_after (within n) s ≡ within in_comment → EndsWithReturn s → begins_line_feed rest ≡ false
     left [] e h m is = absurd is
     left (y ∷ ys) e h m is = h (ap (λ n. mode_after n (y ∷ ys)) (ap mode_turn e) ∙ m) is
 
@@ -110,8 +110,8 @@ begun_part x i s rest e lexeme follows =
       apart = left s follows.apart;
     }
   where
-    left : (s : List ℕ) → (mode_after between (x ∷ s) ≡ within in_remark → EndsWithReturn (x ∷ s) → begins_line_feed rest ≡ false)
-        → mode_after (within i) s ≡ within in_remark → EndsWithReturn s → begins_line_feed rest ≡ false
+    left : (s : List ℕ) → (mode_after between (x ∷ s) ≡ within in_comment → EndsWithReturn (x ∷ s) → begins_line_feed rest ≡ false)
+        → mode_after (within i) s ≡ within in_comment → EndsWithReturn s → begins_line_feed rest ≡ false
     left [] h m is = absurd is
     left (y ∷ ys) h m is = h (ap (λ n. mode_after n (y ∷ ys)) (ap mode_first e) ∙ m) is
 

@@ -2,7 +2,7 @@
 use Rattle.std.proofs.Common.{◌≡◌, ℕ, ◌<◌, Bool, true, false, cond, ◌==◌, ◌&&◌, ◌||◌, refl, sym, ◌∙◌, arith}
 use Rattle.std.proofs.lemmas.Bool.{cond_both, false≢true, and_parts}
 use Rattle.toml_lexemes.specs.Bytes.{ends_word}
-use Rattle.toml_lexemes.specs.Lexemes.{StringKind, basic, quote_mark, escapes, Inner, in_word, in_remark, opened, doubled, in_line}
+use Rattle.toml_lexemes.specs.Lexemes.{StringKind, basic, quote_mark, escapes, Inner, in_word, in_comment, opened, doubled, in_line}
 use Rattle.toml_lexemes.specs.Lexemes.{in_line_escape}
 use Rattle.toml_lexemes.specs.Lexemes.{in_lines, in_lines_escape, closing, closing_more, closed, closed_more, ByteTurn}
 use Rattle.toml_lexemes.specs.Lexemes.{goes_on, ends, stops}
@@ -45,8 +45,8 @@ free i x e h = absurd (false≢true (sym h ∙ e))
 
 pub Tied-turn : (i : Inner) (x : ℕ) (b : Bool) → Tied i x (turn i x b)
 Tied-turn in_word x b = by_test in_word x (ends_word x) _ _ (λ e h. ends_ascii x e) (goes in_word x in_word refl)
-Tied-turn in_remark x b =
-    by_test in_remark x ((x == 10) || ((x == 13) && b)) _ _ (λ e h. line_end_ascii x b e) (goes in_remark x in_remark refl)
+Tied-turn in_comment x b =
+    by_test in_comment x ((x == 10) || ((x == 13) && b)) _ _ (λ e h. line_end_ascii x b e) (goes in_comment x in_comment refl)
 Tied-turn (opened k) x b = by_mark (opened k) x k (doubled k) _ (in_one_line (opened k) x k)
 Tied-turn (doubled k) x b = by_mark (doubled k) x k (in_lines k) stops (free (doubled k) x refl)
 Tied-turn (in_line k) x b = in_one_line (in_line k) x k

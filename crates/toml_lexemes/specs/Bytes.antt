@@ -1,5 +1,5 @@
 -- The bytes that TOML gives a meaning.
-use Rattle.std.specs.Prelude.{ℕ, List, Bool, ◌||◌, ◌==◌, get_or}
+use Rattle.std.specs.Prelude.{ℕ, List, Bool, ◌||◌, ◌==◌, ◌-◌, length, get_or}
 
 abbrev pub tab : ℕ
 tab = 9
@@ -24,6 +24,9 @@ apostrophe = 39
 
 abbrev pub comma : ℕ
 comma = 44
+
+abbrev pub dot : ℕ
+dot = 46
 
 abbrev pub equals : ℕ
 equals = 61
@@ -56,10 +59,14 @@ is_blank c = (c == blank_space) || (c == tab) || (c == carriage_return)
 abbrev pub is_quote : ℕ → Bool
 is_quote c = (c == quote) || (c == apostrophe)
 
--- what ends a word: a sign, a blank, a line end, a quote or the beginning of a remark
+-- what ends a word: a sign, a blank, a line end, a quote or the beginning of a comment
 abbrev pub ends_word : ℕ → Bool
 ends_word c = is_sign c || is_blank c || is_quote c || (c == line_feed) || (c == hash)
 
 -- the first byte, or a space where there is none
 abbrev pub head : List ℕ → ℕ
 head t = get_or t 0 blank_space
+
+-- the last byte is a dot
+abbrev pub ends_with_dot : List ℕ → Bool
+ends_with_dot t = get_or t (length t - 1) blank_space == dot

@@ -49,7 +49,7 @@ abbrev pub LineFeedMayFollow : Type 0
 LineFeedMayFollow =
     (s : List ℕ) (x : ℕ) (xs rest : List ℕ) → (EndsWithReturn s → ⊥) → MayFollow s (x ∷ xs) → MayFollow s (line_feed ∷ rest)
 
--- where a byte that begins no line end may follow, a blank, a sign, a line feed or a remark may
+-- where a byte that begins no line end may follow, a blank, a sign, a line feed or a comment may
 abbrev pub BlankMayFollow : Type 0
 BlankMayFollow =
     (s : List ℕ) (x : ℕ) (xs : List ℕ) (y : ℕ) (ys : List ℕ) → begins_line_end (x ∷ xs) ≡ false → ends_word y ≡ true → is_quote y ≡ false
@@ -64,9 +64,9 @@ abbrev pub WordsAreEnded : Type 0
 WordsAreEnded =
     (s r : List ℕ) → toml_lexemes_of s ≡ s ∷ [] → ends_word (head s) ≡ false → MayFollow s r ↔ (ends_word (head r) ≡ true)
 
--- after a remark may stand a line end or the end of the text, and nothing else; after one that ends with CR no line feed may
-abbrev pub RemarksAreEnded : Type 0
-RemarksAreEnded =
+-- after a comment may stand a line end or the end of the text, and nothing else; after one that ends with CR no line feed may
+abbrev pub CommentsAreEnded : Type 0
+CommentsAreEnded =
     (s : List ℕ) (x : ℕ) (xs : List ℕ) → toml_lexemes_of s ≡ s ∷ [] → head s ≡ hash
     → MayFollow s (x ∷ xs) ↔ ((begins_line_end (x ∷ xs) ≡ true) × (EndsWithReturn s → x ≢ line_feed))
 

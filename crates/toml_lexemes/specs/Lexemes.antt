@@ -1,4 +1,4 @@
--- The lexemes of a TOML text: its signs and line ends, its remarks, its strings with their quotes, and its words.
+-- The lexemes of a TOML text: its signs and line ends, its comments, its strings with their quotes, and its words.
 use Rattle.std.specs.Prelude.{ℕ, List, [], ◌∷◌, Bool, false, cond, ◌&&◌, ◌||◌, ◌==◌}
 use Rattle.toml_lexemes.specs.Bytes.{line_feed, carriage_return, quote, hash, apostrophe, backslash, is_sign, is_blank, ends_word}
 
@@ -20,7 +20,7 @@ escapes literal x = false
 -- where in a lexeme a byte stands
 pub data Inner : Type 0 where
   in_word : Inner
-  in_remark : Inner
+  in_comment : Inner
   -- after the first quote of a string
   opened : StringKind → Inner
   -- after two quotes, which are an empty string or the beginning of a string of several lines
@@ -56,7 +56,7 @@ abbrev pub first : ℕ → First
 first x =
     cond (is_blank x) passed
     (cond (is_sign x || (x == line_feed)) alone
-    (cond (x == hash) (begins in_remark)
+    (cond (x == hash) (begins in_comment)
     (cond (x == quote) (begins (opened basic))
     (cond (x == apostrophe) (begins (opened literal)) (begins in_word)))))
 
@@ -80,7 +80,7 @@ lines_turn k x = cond (x == quote_mark k) (goes_on (closing k)) (cond (escapes k
 -- what the byte x is in a lexeme; `before` says whether it stands directly before a line feed
 abbrev pub turn : Inner → ℕ → Bool → ByteTurn
 turn in_word x before = cond (ends_word x) stops (goes_on in_word)
-turn in_remark x before = cond ((x == line_feed) || ((x == carriage_return) && before)) stops (goes_on in_remark)
+turn in_comment x before = cond ((x == line_feed) || ((x == carriage_return) && before)) stops (goes_on in_comment)
 turn (opened k) x before = cond (x == quote_mark k) (goes_on (doubled k)) (line_turn k x)
 turn (doubled k) x before = cond (x == quote_mark k) (goes_on (in_lines k)) stops
 turn (in_line k) x before = line_turn k x

@@ -7,3 +7,8 @@ pub mod Modes
 pub mod View
 pub mod Lexer
 pub mod SpacedLexer
+pub mod Statements
+pub mod Shown
+pub mod Sound
+pub mod StatementLaws
+pub mod Rows

@@ -4,7 +4,7 @@ use Rattle.toml_lexemes.specs.Lexemes as spec
 use Rattle.toml_lexemes.specs.declared.mode.StringKind.{StringKind}
 use Rattle.toml_lexemes.specs.declared.mode.StringKind.TheVariants.{Basic, Literal}
 use Rattle.toml_lexemes.specs.declared.mode.LexerMode.{LexerMode}
-use Rattle.toml_lexemes.specs.declared.mode.LexerMode.TheVariants.{InWord, InRemark, Opened, Doubled, InLine, InLineEscape, InLines}
+use Rattle.toml_lexemes.specs.declared.mode.LexerMode.TheVariants.{InWord, InComment, Opened, Doubled, InLine, InLineEscape, InLines}
 use Rattle.toml_lexemes.specs.declared.mode.LexerMode.TheVariants.{InLinesEscape, Closing, ClosingMore, Closed, ClosedMore}
 use Rattle.toml_lexemes.specs.declared.mode.ByteTurn.{ByteTurn}
 use Rattle.toml_lexemes.specs.declared.mode.ByteTurn.TheVariants.{GoesOn, Ends, Stops}
@@ -17,7 +17,7 @@ kind_of Literal = spec.literal
 -- the place in a lexeme that the code's mode means
 abbrev pub inner_of : LexerMode → spec.Inner
 inner_of InWord = spec.in_word
-inner_of InRemark = spec.in_remark
+inner_of InComment = spec.in_comment
 inner_of (Opened k) = spec.opened (kind_of k)
 inner_of (Doubled k) = spec.doubled (kind_of k)
 inner_of (InLine k) = spec.in_line (kind_of k)
@@ -38,7 +38,7 @@ turn_of Stops = spec.stops
 -- a mode in which the lexeme may end before any byte: the byte before it is a quote
 abbrev pub is_after_quote : spec.Inner → Bool
 is_after_quote spec.in_word = false
-is_after_quote spec.in_remark = false
+is_after_quote spec.in_comment = false
 is_after_quote (spec.opened k) = false
 is_after_quote (spec.doubled k) = true
 is_after_quote (spec.in_line k) = false

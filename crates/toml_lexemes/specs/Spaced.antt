@@ -1,7 +1,7 @@
 -- Texts with gaps around them.
 use Rattle.std.specs.Prelude.{◌≡◌, ◌==◌, ◌&&◌, ◌||◌, ℕ, Bool, true, false, List, [], ◌∷◌, ◌++◌, ⊤}
 use Rattle.toml_lexemes.specs.Bytes.{carriage_return, line_feed, is_blank}
-use Rattle.toml_lexemes.specs.Lexemes.{in_remark, LexerMode, between, within, First, passed, alone, begins, first}
+use Rattle.toml_lexemes.specs.Lexemes.{in_comment, LexerMode, between, within, First, passed, alone, begins, first}
 use Rattle.toml_lexemes.specs.Lexemes.{ByteTurn, goes_on, ends, stops}
 use Rattle.toml_lexemes.specs.Lexemes.{turn, begins_line_feed}
 
@@ -37,7 +37,7 @@ mode_after between (x ∷ xs) = mode_after (mode_first (first x)) xs
 mode_after (within i) (x ∷ xs) = mode_after (mode_turn (turn i x (begins_line_feed xs))) xs
 
 -- A lexeme that leaves a mode ends before these bytes: one that is ended does before any; else they are none, or their
--- first byte stops it. So a word ends before a blank, a line end, a sign, a quote or a remark; a remark before a line end;
+-- first byte stops it. So a word ends before a blank, a line end, a sign, a quote or a comment; a comment before a line end;
 -- a string of one line that is not closed before a line feed; two quotes, and a string of several lines that is closed,
 -- before any byte but their quote; and a string of several lines that is not closed only at the end of the text.
 abbrev pub EndsBefore : LexerMode → List ℕ → Type 0
@@ -51,11 +51,11 @@ EndsWithReturn [] = ⊥
 EndsWithReturn (x ∷ []) = x ≡ carriage_return
 EndsWithReturn (x ∷ (y ∷ ys)) = EndsWithReturn (y ∷ ys)
 
--- The bytes may come directly after the lexeme. A remark that ends with CR does not stand before a line feed, which would
+-- The bytes may come directly after the lexeme. A comment that ends with CR does not stand before a line feed, which would
 -- make the CR a part of the line end.
 pub record MayFollow (lexeme bytes : List ℕ) : Type 0 where
   pub ended : EndsBefore (mode_after between lexeme) bytes
-  pub apart : mode_after between lexeme ≡ within in_remark → EndsWithReturn lexeme → begins_line_feed bytes ≡ false
+  pub apart : mode_after between lexeme ≡ within in_comment → EndsWithReturn lexeme → begins_line_feed bytes ≡ false
 
 -- spaced, and each text has after it what may follow it
 abbrev pub IsWellSpaced : List ℕ → List (List ℕ) → Type 0

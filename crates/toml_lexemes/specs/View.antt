@@ -5,7 +5,7 @@ use Rattle.toml_lexemes.specs.Bytes as byte
 use Rattle.toml_lexemes.specs.Lexemes.{between, cut_toml}
 use Rattle.toml_lexemes.specs.declared.lexeme.Lexeme.{Lexeme}
 use Rattle.toml_lexemes.specs.declared.lexeme.Lexeme.TheVariants.{OpenArray, CloseArray, OpenTable, CloseTable, Comma, Equals, LineEnd}
-use Rattle.toml_lexemes.specs.declared.lexeme.Lexeme.TheVariants.{Remark, String, Word}
+use Rattle.toml_lexemes.specs.declared.lexeme.Lexeme.TheVariants.{Comment, String, Word}
 
 -- how a lexeme is spelled
 abbrev pub toml_text_of : Lexeme → List ℕ
@@ -16,11 +16,11 @@ toml_text_of CloseTable = byte.close_brace ∷ []
 toml_text_of Comma = byte.comma ∷ []
 toml_text_of Equals = byte.equals ∷ []
 toml_text_of LineEnd = byte.line_feed ∷ []
-toml_text_of (Remark s) = s.now
+toml_text_of (Comment s) = s.now
 toml_text_of (String s) = s.now
 toml_text_of (Word s) = s.now
 
--- a remark begins with `#`, and a string with a quote; a word begins with nothing that ends a word, so it is not empty
+-- a comment begins with `#`, and a string with a quote; a word begins with nothing that ends a word, so it is not empty
 abbrev pub HasTomlKind : Lexeme → Type 0
 HasTomlKind OpenArray = ⊤
 HasTomlKind CloseArray = ⊤
@@ -29,7 +29,7 @@ HasTomlKind CloseTable = ⊤
 HasTomlKind Comma = ⊤
 HasTomlKind Equals = ⊤
 HasTomlKind LineEnd = ⊤
-HasTomlKind (Remark s) = byte.head s.now ≡ byte.hash
+HasTomlKind (Comment s) = byte.head s.now ≡ byte.hash
 HasTomlKind (String s) = byte.is_quote (byte.head s.now) ≡ true
 HasTomlKind (Word s) = byte.ends_word (byte.head s.now) ≡ false
 

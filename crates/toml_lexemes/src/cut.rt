@@ -88,7 +88,7 @@ pub(crate) fn lexeme_at<'a>(text: &'a str, place: usize) -> Lexeme<'a>
         b',' => Lexeme::Comma,
         b'=' => Lexeme::Equals,
         b'\n' => Lexeme::LineEnd,
-        b'#' => Lexeme::Remark(slice_at(text, place, LexerMode::InRemark)),
+        b'#' => Lexeme::Comment(slice_at(text, place, LexerMode::InComment)),
         b'"' => Lexeme::String(slice_at(text, place, LexerMode::Opened(StringKind::Basic))),
         b'\'' => Lexeme::String(slice_at(text, place, LexerMode::Opened(StringKind::Literal))),
         _ => Lexeme::Word(slice_at(text, place, LexerMode::InWord)),

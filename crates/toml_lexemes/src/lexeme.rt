@@ -15,13 +15,13 @@ pub enum Lexeme<'a> {
     Equals,
     /// The end of a line, LF. A CR before it is no part of it.
     LineEnd,
-    /// A remark, from `#` up to the line end or the end of the text.
-    Remark(&'a str),
+    /// A comment, from `#` up to the line end or the end of the text.
+    Comment(&'a str),
     /// A string of any of the four kinds, with its quotes. One of one line that no quote closes goes up to the line end, and
     /// one of several lines up to the end of the text.
     String(&'a str),
     /// A key, a number, a date, a literal, or what stands in place of one: it goes up to a blank, a line end, a sign, a
-    /// quote, a remark or the end.
+    /// quote, a comment or the end.
     Word(&'a str),
 }
 
@@ -42,7 +42,7 @@ impl<'a> Lexeme<'a> {
             Lexeme::Comma => ",",
             Lexeme::Equals => "=",
             Lexeme::LineEnd => "\n",
-            Lexeme::Remark(text) | Lexeme::String(text) | Lexeme::Word(text) => text,
+            Lexeme::Comment(text) | Lexeme::String(text) | Lexeme::Word(text) => text,
         }
     }
 }

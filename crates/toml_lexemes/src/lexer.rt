@@ -68,7 +68,7 @@ impl<'a> Iterator for Lexer<'a> {
     }
 }
 
-/// The lexemes of a text, in their order. Each is a slice of the text or one sign; blanks are in none but strings and remarks.
+/// The lexemes of a text, in their order. Each is a slice of the text or one sign; blanks are in none but strings and comments.
 ///
 /// `AllocError` where memory is refused.
 pub fn lexemes<'a>(alloc: Global, text: &'a str) -> Result<Vec<Lexeme<'a>>, AllocError>

@@ -16,7 +16,7 @@ pub(crate) enum StringKind {
 #[derive(Clone, Copy)]
 pub(crate) enum LexerMode {
     InWord,
-    InRemark,
+    InComment,
     /// After the first quote of a string.
     Opened(StringKind),
     /// After two quotes with nothing between them.
@@ -161,7 +161,10 @@ pub(crate) fn turn_at(mode: LexerMode, byte: u8, before_line_feed: bool) -> Byte
 {
     match mode {
         LexerMode::InWord => stops_at(ends_word(byte), mode),
-        LexerMode::InRemark => stops_at(byte == b'\n' || (byte == b'\r' && before_line_feed), mode),
+        LexerMode::InComment => stops_at(
+            byte == b'\n' || (byte == b'\r' && before_line_feed),
+            mode,
+        ),
         LexerMode::Opened(kind) => at_mark(
             kind,
             byte,

@@ -56,7 +56,7 @@ fn say_found<R: Eprint>(rt: &R, found: Found<'_>) -> io::Result<()> {
             eprint!(rt; ", found a string of several lines")
         }
         Found::Lexeme(Lexeme::String(_)) => eprint!(rt; ", found a string"),
-        Found::Lexeme(Lexeme::Remark(_)) => eprint!(rt; ", found a comment"),
+        Found::Lexeme(Lexeme::Comment(_)) => eprint!(rt; ", found a comment"),
         Found::Lexeme(lexeme) => say_word(rt, lexeme.text()),
     }
 }

@@ -6,7 +6,7 @@ use Rattle.prettyless.specs.Content.{HasContent}
 use Rattle.prettyless.specs.Layout.{Whole, layout}
 use Rattle.prettyless.specs.Tree.{Tree}
 use Rattle.prettyless_model.specs.declared.options.RenderOptions.{RenderOptions}
-use Rattle.toml_statements.proofs.ReadItems.{shown_as_read}
+use Rattle.toml_lexemes.proofs.ReadItems.{shown_as_read}
 use Rattle.toml_formatter.specs.Lines.{HasStatements}
 use Rattle.toml_lexemes.specs.Lexemes.{toml_lexemes_of}
 use Rattle.toml_formatter.specs.Documents.{toml_document}

@@ -1,6 +1,6 @@
 use Rattle.std.proofs.Common.{refl, sym, ◌∙◌, ap, inl, inr, Bool, if◌then◌else◌}
 use Rattle.std.specs.String.{string_bytes}
-use Rattle.toml_statements.specs.Statements.{statements}
+use Rattle.toml_lexemes.specs.Statements.{statements}
 use Rattle.toml_formatter.specs.Alignment.{with_aligned_comments}
 use Rattle.toml_formatter.proofs.Aligning.{aligned_statements}
 use Rattle.toml_formatter.proofs.DepthLemmas.{passed_on}

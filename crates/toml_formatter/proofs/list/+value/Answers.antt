@@ -11,7 +11,7 @@ use Rattle.toml_formatter.specs.declared.error.FormatError.TheVariants.{TooDeep}
 use Rattle.toml_formatter.proofs.DepthLemmas.{bracket_refused, closed_within, ended_within, list_refused, memory_within, next_within}
 use Rattle.toml_formatter.proofs.DepthLemmas.{of_memory, part_within, passed_on, plain_within, refused_after}
 use Rattle.toml_formatter.proofs.DraftLemmas.{comma_reads, line_end_reads, list_part, list_reads, plain_levels, reads_none, reads_then}
-use Rattle.toml_formatter.proofs.DraftLemmas.{remark_reads, unclosed_list_reads, value_reads}
+use Rattle.toml_formatter.proofs.DraftLemmas.{comment_reads, unclosed_list_reads, value_reads}
 use Rattle.toml_formatter.proofs.Values.{part_alone}
 use Rattle.toml_formatter.specs.Documents.{document_from, Level, lexeme_tree, new_level, with_part}
 use Rattle.toml_formatter.specs.Drafts.{ReadsOn}
@@ -90,9 +90,9 @@ pub with_next-returns-in_ok-with_comma-in-Comma-clause-within : goal.with_next-r
 with_next-returns-in_ok-with_comma-in-Comma-clause-within t c =
     plain_within c.args.next c.requires.named (ap is_opening c.in-Comma.is) c.requires.part c.args.depth c.args.lexemes.now
 
-pub with_next-returns-in_ok-with_remark-in-Remark-clause-within : goal.with_next-returns-in_ok-with_remark-in-Remark-clause-within
-with_next-returns-in_ok-with_remark-in-Remark-clause-within t c =
-    plain_within c.args.next c.requires.named (ap is_opening c.in-Remark.is) c.requires.part c.args.depth c.args.lexemes.now
+pub with_next-returns-in_ok-with_comment-in-Comment-clause-within : goal.with_next-returns-in_ok-with_comment-in-Comment-clause-within
+with_next-returns-in_ok-with_comment-in-Comment-clause-within t c =
+    plain_within c.args.next c.requires.named (ap is_opening c.in-Comment.is) c.requires.part c.args.depth c.args.lexemes.now
 
 pub with_next-returns-in_ok-with_comma-in-Comma-clause-made : goal.with_next-returns-in_ok-with_comma-in-Comma-clause-made
 with_next-returns-in_ok-with_comma-in-Comma-clause-made t c = λ taken h.
@@ -104,13 +104,13 @@ with_next-returns-in_ok-with_comma-in-Comma-clause-made t c = λ taken h.
           ShowsTaken true true c.args.line (s ∷ ls) taken) e h),
     )
 
-pub with_next-returns-in_ok-with_remark-in-Remark-clause-made : goal.with_next-returns-in_ok-with_remark-in-Remark-clause-made
-with_next-returns-in_ok-with_remark-in-Remark-clause-made t c = λ taken h.
+pub with_next-returns-in_ok-with_comment-in-Comment-clause-made : goal.with_next-returns-in_ok-with_comment-in-Comment-clause-made
+with_next-returns-in_ok-with_comment-in-Comment-clause-made t c = λ taken h.
     let ls = c.args.lexemes.now in
-    let r = c.in-Remark.remark.now in
+    let r = c.in-Comment.comment.now in
     let n = is_nested c.args.kind in
-    let e : toml_text_of c.args.next ≡ r = ap toml_text_of c.in-Remark.is in
-    let made = c.in_ok-with_remark-in-Remark in (
+    let e : toml_text_of c.args.next ≡ r = ap toml_text_of c.in-Comment.is in
+    let made = c.in_ok-with_comment-in-Comment in (
       r ∷ [],
       ap (λ (s : List ℕ). s ∷ ls) e,
       subst (λ (m : Bool). ShowsTaken m true made.field-0 ls (taken ++ r ∷ [])) c.requires.kind
@@ -238,15 +238,15 @@ with_next-returns-in_ok-with_comma-in-Comma-clause-read t c = λ lv kinds h.
     comma_reads c.args.setting.now.style true lv (toml_text_of c.args.next) c.args.lexemes.now c.in_ok-with_comma-in-Comma.field-0
     (ap toml_text_of c.in-Comma.is) (c.in_ok-with_comma-in-Comma.ensures.stands lv h)
 
-pub with_next-returns-in_ok-with_remark-in-Remark-clause-read : goal.with_next-returns-in_ok-with_remark-in-Remark-clause-read
-with_next-returns-in_ok-with_remark-in-Remark-clause-read t c = λ lv kinds h.
-    remark_reads c.args.setting.now.style true lv (toml_text_of c.args.next) c.in-Remark.remark.now c.args.lexemes.now
-    c.in_ok-with_remark-in-Remark.field-0 (ap toml_text_of c.in-Remark.is) (subst HasTomlKind c.in-Remark.is c.requires.named)
-    (c.in_ok-with_remark-in-Remark.ensures.stands lv kinds h)
+pub with_next-returns-in_ok-with_comment-in-Comment-clause-read : goal.with_next-returns-in_ok-with_comment-in-Comment-clause-read
+with_next-returns-in_ok-with_comment-in-Comment-clause-read t c = λ lv kinds h.
+    comment_reads c.args.setting.now.style true lv (toml_text_of c.args.next) c.in-Comment.comment.now c.args.lexemes.now
+    c.in_ok-with_comment-in-Comment.field-0 (ap toml_text_of c.in-Comment.is) (subst HasTomlKind c.in-Comment.is c.requires.named)
+    (c.in_ok-with_comment-in-Comment.ensures.stands lv kinds h)
 
 pub with_next-returns-in_ok-with_value-in_default-clause-read : goal.with_next-returns-in_ok-with_value-in_default-clause-read
 with_next-returns-in_ok-with_value-in_default-clause-read t c = λ lv kinds h.
     value_reads c.args.setting.now.style true c.args.kind lv c.args.next c.args.lexemes.now c.value.new.lexemes
     (ref_tree c.in_ok-value-in_default.value) c.in_ok-with_value-in_default.field-0 c.requires.named
-    (list_part c.args.next c.requires.part c.in_default.not-LineEnd c.in_default.not-Comma c.in_default.not-Remark) kinds
+    (list_part c.args.next c.requires.part c.in_default.not-LineEnd c.in_default.not-Comma c.in_default.not-Comment) kinds
     c.in_ok-value-in_default.ensures.read (c.in_ok-with_value-in_default.ensures.stands lv kinds h)

@@ -17,7 +17,7 @@ returns-clause-made c = λ taken h.
       opens = c.requires;
       shown = opening_shows c.args.bracket o c.text.result.now c.requires c.text.ensures c.in_ok-text.ensures.items;
     } in
-    let settled : IsSettled c.in_ok-line.line = record { no_comma = line.no_comma; no_remarks = line.no_remarks } in
+    let settled : IsSettled c.in_ok-line.line = record { no_comma = line.no_comma; no_comments = line.no_comments } in
     list_unclosed (ref_tree c.in_ok-joined.field-0) opener c.in_ok-joined.ensures.items settled
     (line.line true true [] taken never h)
 

@@ -31,7 +31,7 @@ returns-clause-made c =
     let ls = c.loop-next.lexemes in
     let after = c.in_ok-settled.ensures in
     let line = c.in_ok-settled.field-0 in
-    let settled : IsSettled line = record { no_comma = after.no_comma; no_remarks = after.no_remarks } in
+    let settled : IsSettled line = record { no_comma = after.no_comma; no_comments = after.no_comments } in
     let shown = after.line false true ls before.0 (may_settle c.loop-next.line ls before.3) before.2 in (
       before.0,
       line_is_statement line ls before.0 settled shown,

@@ -3,21 +3,21 @@ use Rattle.std.proofs.lemmas.Result.{IfOk-weaker}
 use Rattle.prettyless.specs.Trees.{ref_tree}
 use Rattle.toml_lexemes.specs.Bytes.{comma}
 use Rattle.toml_lexemes.specs.View.{toml_text_of, HasTomlKind}
-use Rattle.toml_statements.specs.Sound.{IsSound}
+use Rattle.toml_lexemes.specs.Sound.{IsSound}
 use Rattle.toml_formatter.specs.Lines.{ShowsTaken}
 use Rattle.toml_grammar.specs.Nesting.{max_brackets}
-use Rattle.toml_formatter.specs.Gaps.{is_last_remark}
+use Rattle.toml_formatter.specs.Gaps.{is_last_comment}
 use Rattle.toml_formatter.specs.Kinds.{is_closing, is_opening}
 use Rattle.toml_formatter.specs.declared.kind.Kind.TheVariants.{Statement}
 use Rattle.toml_formatter.proofs.DepthLemmas.{closing_within, plain_within}
-use Rattle.toml_formatter.proofs.DraftLemmas.{closing_reads, comma_reads, remark_reads, value_reads}
+use Rattle.toml_formatter.proofs.DraftLemmas.{closing_reads, comma_reads, comment_reads, value_reads}
 use Rattle.toml_formatter.proofs.StatementLemmas.{part_of}
-use Rattle.toml_formatter.proofs.Values.{remark_whole}
+use Rattle.toml_formatter.proofs.Values.{comment_whole}
 use Rattle.toml_formatter.proofs.statement.with_next.Goals as goal
 
 pub value-requires-clause-part : goal.value-requires-clause-part
 value-requires-clause-part c = part_of c.args.next c.args.lexemes.now c.requires.no_line_end (sym c.closes.ensures ∙ c.if-closes.false)
-    c.in_default.not-Comma c.in_default.not-Remark
+    c.in_default.not-Comma c.in_default.not-Comment
 
 pub returns-then-closes-clause-line : goal.returns-then-closes-clause-line
 returns-then-closes-clause-line c =
@@ -37,9 +37,10 @@ pub returns-in_ok-with_comma-in-Comma-clause-within : goal.returns-in_ok-with_co
 returns-in_ok-with_comma-in-Comma-clause-within c =
     plain_within c.args.next c.requires.named (ap is_opening c.in-Comma.is) (ap is_closing c.in-Comma.is) max_brackets c.args.lexemes.now
 
-pub returns-in_ok-with_remark-in-Remark-clause-within : goal.returns-in_ok-with_remark-in-Remark-clause-within
-returns-in_ok-with_remark-in-Remark-clause-within c =
-    plain_within c.args.next c.requires.named (ap is_opening c.in-Remark.is) (ap is_closing c.in-Remark.is) max_brackets c.args.lexemes.now
+pub returns-in_ok-with_comment-in-Comment-clause-within : goal.returns-in_ok-with_comment-in-Comment-clause-within
+returns-in_ok-with_comment-in-Comment-clause-within c =
+    plain_within c.args.next c.requires.named (ap is_opening c.in-Comment.is) (ap is_closing c.in-Comment.is) max_brackets
+    c.args.lexemes.now
 
 pub returns-in_ok-with_comma-in-Comma-clause-line : goal.returns-in_ok-with_comma-in-Comma-clause-line
 returns-in_ok-with_comma-in-Comma-clause-line c = λ taken h.
@@ -54,24 +55,24 @@ returns-in_ok-with_comma-in-Comma-clause-line c = λ taken h.
 pub returns-in_ok-with_comma-in-Comma-clause-goes_on : goal.returns-in_ok-with_comma-in-Comma-clause-goes_on
 returns-in_ok-with_comma-in-Comma-clause-goes_on c = inl (c.in_ok-with_comma-in-Comma.ensures.goes_on false c.requires.goes_on)
 
-pub returns-in_ok-with_remark-in-Remark-clause-line : goal.returns-in_ok-with_remark-in-Remark-clause-line
-returns-in_ok-with_remark-in-Remark-clause-line c = λ taken h.
+pub returns-in_ok-with_comment-in-Comment-clause-line : goal.returns-in_ok-with_comment-in-Comment-clause-line
+returns-in_ok-with_comment-in-Comment-clause-line c = λ taken h.
     let ls = c.args.lexemes.now in
-    let r = c.in-Remark.remark.now in
-    let e : toml_text_of c.args.next ≡ r = ap toml_text_of c.in-Remark.is in (
+    let r = c.in-Comment.comment.now in
+    let e : toml_text_of c.args.next ≡ r = ap toml_text_of c.in-Comment.is in (
       r ∷ [],
       ap (λ (s : List ℕ). s ∷ ls) e,
-      c.in_ok-with_remark-in-Remark.ensures.line ls taken (subst (λ (s : List ℕ). ShowsTaken false true c.args.line (s ∷ ls) taken) e h),
+      c.in_ok-with_comment-in-Comment.ensures.line ls taken (subst (λ (s : List ℕ). ShowsTaken false true c.args.line (s ∷ ls) taken) e h),
     )
 
-pub returns-in_ok-with_remark-in-Remark-clause-goes_on : goal.returns-in_ok-with_remark-in-Remark-clause-goes_on
-returns-in_ok-with_remark-in-Remark-clause-goes_on c =
+pub returns-in_ok-with_comment-in-Comment-clause-goes_on : goal.returns-in_ok-with_comment-in-Comment-clause-goes_on
+returns-in_ok-with_comment-in-Comment-clause-goes_on c =
     let ls = c.args.lexemes.now in
-    let r = c.in-Remark.remark.now in
-    let e : toml_text_of c.args.next ≡ r = ap toml_text_of c.in-Remark.is in
-    let named = subst HasTomlKind c.in-Remark.is c.requires.named in
+    let r = c.in-Comment.comment.now in
+    let e : toml_text_of c.args.next ≡ r = ap toml_text_of c.in-Comment.is in
+    let named = subst HasTomlKind c.in-Comment.is c.requires.named in
     let sound = subst (λ (s : List ℕ). IsSound s ls) e c.requires.sound in
-    inr (λ k. ap is_last_remark c.in_ok-with_remark-in-Remark.ensures.last ∙ c.requires.goes_on.1, (remark_whole r ls named sound).1)
+    inr (λ k. ap is_last_comment c.in_ok-with_comment-in-Comment.ensures.last ∙ c.requires.goes_on.1, (comment_whole r ls named sound).1)
 
 pub returns-in_ok-with_value-in_default-clause-line : goal.returns-in_ok-with_value-in_default-clause-line
 returns-in_ok-with_value-in_default-clause-line c = λ taken h.
@@ -97,16 +98,16 @@ returns-in_ok-with_comma-in-Comma-clause-read c = λ lv kinds h.
     comma_reads c.args.setting.now.style false lv (toml_text_of c.args.next) c.args.lexemes.now c.in_ok-with_comma-in-Comma.field-0
     (ap toml_text_of c.in-Comma.is) (c.in_ok-with_comma-in-Comma.ensures.stands lv h)
 
-pub returns-in_ok-with_remark-in-Remark-clause-read : goal.returns-in_ok-with_remark-in-Remark-clause-read
-returns-in_ok-with_remark-in-Remark-clause-read c = λ lv kinds h.
-    remark_reads c.args.setting.now.style false lv (toml_text_of c.args.next) c.in-Remark.remark.now c.args.lexemes.now
-    c.in_ok-with_remark-in-Remark.field-0 (ap toml_text_of c.in-Remark.is) (subst HasTomlKind c.in-Remark.is c.requires.named)
-    (c.in_ok-with_remark-in-Remark.ensures.stands lv kinds h)
+pub returns-in_ok-with_comment-in-Comment-clause-read : goal.returns-in_ok-with_comment-in-Comment-clause-read
+returns-in_ok-with_comment-in-Comment-clause-read c = λ lv kinds h.
+    comment_reads c.args.setting.now.style false lv (toml_text_of c.args.next) c.in-Comment.comment.now c.args.lexemes.now
+    c.in_ok-with_comment-in-Comment.field-0 (ap toml_text_of c.in-Comment.is) (subst HasTomlKind c.in-Comment.is c.requires.named)
+    (c.in_ok-with_comment-in-Comment.ensures.stands lv kinds h)
 
 pub returns-in_ok-with_value-in_default-clause-read : goal.returns-in_ok-with_value-in_default-clause-read
 returns-in_ok-with_value-in_default-clause-read c = λ lv kinds h.
     let part = part_of c.args.next c.args.lexemes.now c.requires.no_line_end (sym c.closes.ensures ∙ c.if-closes.false)
-    c.in_default.not-Comma c.in_default.not-Remark in
+    c.in_default.not-Comma c.in_default.not-Comment in
     value_reads c.args.setting.now.style false Statement lv c.args.next c.args.lexemes.now c.value.new.lexemes
     (ref_tree c.in_ok-value-in_default.value) c.in_ok-with_value-in_default.field-0 c.requires.named part kinds
     c.in_ok-value-in_default.ensures.read (c.in_ok-with_value-in_default.ensures.stands lv kinds h)

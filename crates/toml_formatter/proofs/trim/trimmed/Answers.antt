@@ -1,6 +1,6 @@
 use Rattle.std.proofs.Common.{◌≡◌, sym, ◌∙◌, ap, inr, false, true, take, get_or, ◌-◌, arith}
 use Rattle.toml_lexemes.specs.Bytes.{is_blank}
-use Rattle.toml_statements.specs.Statements.{trimmed}
+use Rattle.toml_lexemes.specs.Statements.{trimmed}
 use Rattle.toml_formatter.proofs.Trims.{blank_ascii, blank_less, blank_none}
 use Rattle.toml_formatter.proofs.trim.trimmed.Goals as goal
 use Rattle.toml_formatter.proofs.trim.trimmed.Goals.{then-loop-end-test+else-is_blank, else-loop-end-test}

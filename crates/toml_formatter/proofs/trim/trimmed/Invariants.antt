@@ -1,6 +1,6 @@
 use Rattle.std.proofs.Common.{◌≡◌, ◌≤◌, ◌<◌, length, take, get_or}
 use Rattle.std.specs.Prelude.{◌⊎◌}
-use Rattle.toml_statements.specs.Statements.{trimmed}
+use Rattle.toml_lexemes.specs.Statements.{trimmed}
 use Rattle.toml_formatter.proofs.trim.trimmed.Given as goal
 
 abbrev pub invariant-loop-end : goal.invariant-loop-end

@@ -11,7 +11,7 @@ pub returns-then-may_trail-clause-closed : goal.returns-then-may_trail-clause-cl
 returns-then-may_trail-clause-closed c = λ x left taken closing h.
     let n = is_nested c.args.kind in
     let after = c.in_ok-line.ensures in
-    let settled : IsSettled c.in_ok-line.line = record { no_comma = after.no_comma; no_remarks = after.no_remarks } in
+    let settled : IsSettled c.in_ok-line.line = record { no_comma = after.no_comma; no_comments = after.no_comments } in
     closed_marked n c.in_ok-line.line x left taken closing settled
     (after.line n false (x ∷ left) taken (λ e k. c.requires e)
     (comma_changed n c.args.self c.keeps_comma.result x left taken c.keeps_comma.ensures.held h))
@@ -22,7 +22,7 @@ pub returns-clause-closed : goal.returns-clause-closed
 returns-clause-closed c = λ x left taken closing h.
     let n = is_nested c.args.kind in
     let after = c.in_ok-line.ensures in
-    let settled : IsSettled c.in_ok-line.line = record { no_comma = after.no_comma; no_remarks = after.no_remarks } in
+    let settled : IsSettled c.in_ok-line.line = record { no_comma = after.no_comma; no_comments = after.no_comments } in
     closed_plain n c.in_ok-line.line x left taken closing settled
     (after.line n false (x ∷ left) taken (λ e k. c.requires e)
     (comma_changed n c.args.self c.keeps_comma.result x left taken c.keeps_comma.ensures.held h))

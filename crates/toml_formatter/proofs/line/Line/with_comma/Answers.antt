@@ -9,7 +9,7 @@ pub returns-then-settles-clause-stands : goal.returns-then-settles-clause-stands
 returns-then-settles-clause-stands c = λ lv h.
     let settled = c.in_ok-settled.ensures in
     subst (λ (l : Line). Stands (level_with_comma lv) l) (sym c.with_waiting_comma.ensures.made)
-    (comma_follows lv c.args.self c.in_ok-settled.field-0 h (sym c.settles.ensures ∙ c.if-settles.true) settled.end settled.no_remarks)
+    (comma_follows lv c.args.self c.in_ok-settled.field-0 h (sym c.settles.ensures ∙ c.if-settles.true) settled.end settled.no_comments)
 
 pub returns-clause-stands : goal.returns-clause-stands
 returns-clause-stands c = λ lv h. subst (λ (l : Line). Stands (level_with_comma lv) l) (sym c.with_waiting_comma-2.ensures.made)

@@ -11,7 +11,7 @@ returns-clause-line c = λ left old taken more h v.
     let n = is_nested c.args.kind in
     let s = toml_text_of c.args.first in
     let after = c.in_ok-line.ensures in
-    let settled : IsSettled c.in_ok-line.line = record { no_comma = after.no_comma; no_remarks = after.no_remarks } in
+    let settled : IsSettled c.in_ok-line.line = record { no_comma = after.no_comma; no_comments = after.no_comments } in
     rw c.last_of.ensures
     (value_taken false false c.in_ok-doc.doc settled c.in_ok-doc.ensures.items c.before-gap.ensures.suits c.requires.whole
     (after.line n true (s ∷ old) taken (λ e k. goes_on_last n c.args.self c.requires.goes_on e) h) v)
@@ -20,5 +20,5 @@ pub returns-clause-stands : goal.returns-clause-stands
 returns-clause-stands c = λ lv kinds h.
     let after = c.in_ok-line.ensures in
     part_stands lv c.in_ok-line.line c.args.kind c.args.first (ref_tree c.args.value) c.in_ok-doc.doc c.before-gap.result c.last_of.result
-    c.requires.named c.requires.part kinds (after.end ∙ settled_same lv c.args.self h) after.no_comma after.no_remarks
+    c.requires.named c.requires.part kinds (after.end ∙ settled_same lv c.args.self h) after.no_comma after.no_comments
     (after.blank ∙ h.blank) c.before-gap.ensures.gap c.in_ok-doc.ensures.ok c.last_of.ensures

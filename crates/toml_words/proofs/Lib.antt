@@ -1,4 +1,0 @@
-mod Digits
-pub mod Closed
-pub mod Remarks
-pub mod Stops

@@ -1,9 +1,0 @@
--- The remarks of TOML 1.0.
-use Rattle.std.specs.Prelude.{ℕ, Bool, ◌&&◌, ◌==◌, List}
-use Rattle.std.specs.List.{list_all}
-use Rattle.toml_lexemes.specs.Bytes.{hash}
-use Rattle.toml_words.specs.Bytes.{first_byte, is_non_eol}
-
--- comment = comment-start-symbol *non-eol
-unfoldable pub is_remark : List ℕ → Bool
-is_remark s = (first_byte s == hash) && list_all is_non_eol s
