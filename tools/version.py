@@ -17,10 +17,10 @@ def place(path, before, times=1):
 
 
 # The programs' own `--version` lines, by the crates whose sources have their words.
-WORDS = {"jsonfmt": "jsonfmt_request", "tomlfmt": "tomlfmt_request"}
+WORDS = {"jsonfmt": "jsonfmt_request", "tomlfmt": "tomlfmt"}
 PLACES = [
     *(place(f"crates/{crate}/src/request.rt", f'"{name}", "') for name, crate in WORDS.items()),
-    place("crates/tomlfmt_request/edits/asks_for_jsonfmt.edit", r'"(?:json|toml)fmt", "', 2),
+    place("crates/tomlfmt/edits/asks_for_jsonfmt.edit", r'"(?:json|toml)fmt", "', 2),
     place("programs/jsonfmt/words.cases", 'jsonfmt (?=[^"]*" \\.\\.$)', 2),
     place("programs/tomlfmt/files.cases", 'tomlfmt (?=[^"]*" \\.\\.$)'),
     *(place(f"docs/{name}.1", f'^\\.TH \\w+ 1 "" "{name} ') for name in WORDS),

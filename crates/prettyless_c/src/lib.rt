@@ -1,15 +1,15 @@
 //! The calls for other languages, under the names that the header `bindings/c/prettyless.h` declares.
 #![tactic(auto)]
 
-ghost use Rattle.json_exports.specs.Answers as json;
-ghost use Rattle.json_exports.specs.Answers.{style_of};
-ghost use Rattle.prettyless_exports.specs.Answers.{Answers, limit_of, options_of};
-ghost use Rattle.toml_exports.specs.Answers as toml;
+ghost use Rattle.prettyless_exports.specs.JsonAnswers.{AnswersJson, style_of};
+ghost use Rattle.prettyless_exports.specs.Overlay.{limit_of};
+ghost use Rattle.prettyless_exports.specs.ProgramAnswers.{Answers, options_of};
+ghost use Rattle.prettyless_exports.specs.TomlAnswers.{AnswersToml};
 
-use json_exports::layout::json_layout;
-use prettyless_exports::layout::program_layout;
+use prettyless_exports::json_texts::json_layout;
+use prettyless_exports::programs::program_layout;
+use prettyless_exports::toml_texts::toml_layout;
 use std::alloc::Global;
-use toml_exports::layout::toml_layout;
 
 /// Lays out the document that a program writes into `out`, at a width in columns.
 ///
@@ -49,7 +49,7 @@ pub extern "C" fn prettyless_layout_json(
     line: &mut usize,
     column: &mut usize,
 ) -> u32
-    ensures { json.AnswersJson (style_of width indent fill keep_blank_lines) (limit_of limit) text.now out.old out.new
+    ensures { AnswersJson (style_of width indent fill keep_blank_lines) (limit_of limit) text.now out.old out.new
         written.new line.new column.new result }
 {
     json_layout(
@@ -83,7 +83,7 @@ pub extern "C" fn prettyless_layout_toml(
     line: &mut usize,
     column: &mut usize,
 ) -> u32
-    ensures { toml.AnswersToml (limit_of limit) text.now out.old out.new written.new line.new column.new result }
+    ensures { AnswersToml (limit_of limit) text.now out.old out.new written.new line.new column.new result }
 {
     toml_layout(
         alloc, text, width, indent, limit, out, written, line, column,

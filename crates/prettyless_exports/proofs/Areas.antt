@@ -1,10 +1,14 @@
 -- What an area that was given bytes holds, and what it counts.
-use Rattle.std.proofs.Common.{◌≡◌, refl, ℕ, ◌<◌, ◌≤◌, List, [], ◌++◌, length, take, ap, sym, ◌∙◌, arith, Some}
+use Rattle.std.proofs.Common.{◌≡◌, refl, ℕ, ◌<◌, ◌≤◌, List, [], ◌++◌, length, take, ap, sym, ◌∙◌, subst, arith, Some}
+use Rattle.std.proofs.Common.{Result, Ok, Err, OnOk, OnErr}
 use Rattle.std.proofs.lemmas.List.{take_all, take-append-le, length-append, length-take}
 use Rattle.prettyless_sink.specs.Sink.{Accepts, AppendsBeginning, Refuses}
 use Rattle.prettyless_exports.specs.Account.{account}
-use Rattle.prettyless_exports.specs.Overlay.{Puts, PutsAll, PutsToLimit}
+use Rattle.prettyless_exports.specs.Overlay.{Holds, Puts, PutsAll, PutsToLimit}
+use Rattle.prettyless_exports.specs.Texts.{IsPut}
 use Rattle.prettyless_exports.specs.declared.area.Area.{Area}
+use Rattle.prettyless_exports.specs.declared.text.Put.{Put}
+use Rattle.prettyless_exports.specs.declared.text.Put.TheVariants.{Whole, Beginning, PastLimit}
 use Rattle.prettyless_exports.proofs.Accounts.{account_grew}
 
 -- what an area has
@@ -48,14 +52,31 @@ puts_to_limit area limit old bytes begun failed =
     (omega arith) in
     record { puts = rw same (puts_within area limit old front begun.3); past = omega (arith, ap length begun.2, length-append front back) }
 
--- what a new area accepted
-pub accepted : (area : Area) (limit : ℕ) (old bytes : List ℕ) → Accepts (Some (account limit old [])) (Some (account_of area))
-    bytes 0 area.failures
-    → PutsAll limit bytes old area.out.now area.count
-accepted area limit old bytes wrote = let w = wrote refl in puts_all area limit old bytes w.1.0 w.1.1
+-- a beginning that goes past the limit is put as all of the bytes are
+put_beginning : (limit : ℕ) (front back old new : List ℕ) (written : ℕ) (put : Put) → limit < length front
+    → IsPut limit front old new written put → IsPut limit (front ++ back) old new written put
+put_beginning limit front back old new written Whole past is = absurd (omega (arith, past, is.0))
+put_beginning limit front back old new written Beginning past is = absurd (omega (arith, past, is.0))
+put_beginning limit front back old new written PastLimit past is = (
+  omega (arith, length-append front back),
+  subst (λ (x : List ℕ). Holds x old new written) (sym (take-append-le limit front back (omega arith))) is.1,
+)
 
--- what a new area refused
-pub refused : (area : Area) (limit : ℕ) (old bytes : List ℕ) → Refuses (Some (account limit old [])) (Some (account_of area))
-    bytes 0 area.failures
-    → PutsToLimit limit bytes old area.out.now area.count
-refused area limit old bytes failed = let f = failed refl in puts_to_limit area limit old bytes f.1.0 (omega (arith, f.1.1))
+-- what is put of the bytes that an area was given, where it had none before and takes them or fails
+pub put_given : {A E : Type 0} (area : Area) (limit : ℕ) (old bytes : List ℕ) (written : ℕ) (put : Put) (r : Result A E)
+    → OnOk r (Accepts (Some (account limit old [])) (Some (account_of area)) bytes 0 area.failures)
+    → OnErr r (Refuses (Some (account limit old [])) (Some (account_of area)) bytes 0 area.failures)
+    → IsPut area.limit area.history.given area.history.before area.out.now written put
+    → IsPut limit bytes old area.out.now written put
+put_given area limit old bytes written put (Ok x) wrote failed is =
+    let w = wrote refl in
+    let grew = account_grew limit area.limit old area.history.before [] area.history.given bytes w.1.0 in
+    rw (grew.same_limit, grew.same_before, grew.grown) at is
+put_given area limit old bytes written put (Err x) wrote failed is =
+    let f = failed refl in
+    let front = f.1.0.0 in
+    let back = f.1.0.1 in
+    let grew = account_grew limit area.limit old area.history.before [] area.history.given front f.1.0.3 in
+    let past : limit < length front = past_limit area limit old front f.1.0.3 (omega (arith, f.1.1)) in
+    subst (λ (x : List ℕ). IsPut limit x old area.out.now written put) (sym f.1.0.2)
+    (put_beginning limit front back old area.out.now written put past (rw (grew.same_limit, grew.same_before, grew.grown) at is))

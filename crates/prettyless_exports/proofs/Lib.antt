@@ -3,5 +3,4 @@ pub mod Areas
 mod Lays
 pub mod Limits
 pub mod Numbered
-mod Names
 mod Overlaid

@@ -1,9 +1,13 @@
 pub mod Account
-pub mod Answers
+pub mod JsonAnswers
+pub mod JsonStatuses
 pub mod Laid
 pub mod Numbers
 pub mod Overlay
-pub mod Statuses
+pub mod ProgramAnswers
+pub mod ProgramStatuses
 pub mod Texts
+pub mod TomlAnswers
+pub mod TomlStatuses
 pub use Rattle.prettyless_program.specs.Faults
 pub use Rattle.prettyless_program.specs.Programs

@@ -1,5 +1,5 @@
 -- An area of bytes, and what is put into it from its start.
-use Rattle.std.specs.Prelude.{◌≡◌, ℕ, ◌<◌, ◌≤◌, List, ◌++◌, length, take, drop}
+use Rattle.std.specs.Prelude.{◌≡◌, ◌-◌, ◌^◌, ◌==◌, ℕ, ◌<◌, ◌≤◌, min, List, ◌++◌, length, take, drop, if◌then◌else◌}
 
 -- the beginning of the bytes that the area has room for
 abbrev pub fitting : List ℕ → List ℕ → List ℕ
@@ -33,3 +33,19 @@ pub record PutsToLimit (limit : ℕ) (bytes old new : List ℕ) (count : ℕ) : 
 pub record KeepsLimit (limit : ℕ) (old new : List ℕ) (count : ℕ) : Type 0 where
   pub past : drop limit new ≡ drop limit old
   pub counted : count ≤ limit
+
+-- ---- what a caller is told
+
+-- the greatest length of a layout: 0 is none, and then that of all areas
+abbrev pub limit_of : ℕ → ℕ
+limit_of limit = if limit == 0 then 2 ^ 64 - 1 else limit
+
+-- The area held `old` and holds `new`: these bytes from its start, as far as there is room, and past them what it held.
+-- So many of them are there.
+pub record Holds (bytes old new : List ℕ) (written : ℕ) : Type 0 where
+  pub in_place : new ≡ overlay bytes old
+  pub count : written ≡ min (length bytes) (length old)
+
+-- the area is as it was, and nothing is said to be in it
+abbrev pub IsUntouched : List ℕ → List ℕ → ℕ → Type 0
+IsUntouched old new written = (new ≡ old) × (written ≡ 0)

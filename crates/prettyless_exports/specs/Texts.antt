@@ -1,7 +1,6 @@
 -- What a text that is put into an area leaves.
 use Rattle.std.specs.Prelude.{◌≡◌, ◌≤◌, ◌<◌, ℕ, List, length, take}
-use Rattle.prettyless_exports.specs.Overlay.{overlay}
-use Rattle.prettyless_exports.specs.Answers.{Holds}
+use Rattle.prettyless_exports.specs.Overlay.{overlay, Holds}
 use Rattle.prettyless_exports.specs.declared.text.Put.{Put}
 use Rattle.prettyless_exports.specs.declared.text.Put.TheVariants.{Whole, Beginning, PastLimit}
 

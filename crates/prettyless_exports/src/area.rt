@@ -1,11 +1,20 @@
 //! A sink over an area of bytes.
 ghost use Rattle.std.specs.Prelude.{◌≡◌, ◌<◌, ◌≤◌, [], Some, length, min, take};
 ghost use Rattle.prettyless_exports.specs.Account.{account};
-ghost use Rattle.prettyless_exports.specs.Overlay.{overlay};
+ghost use Rattle.prettyless_exports.specs.Overlay.{limit_of, overlay};
+ghost use Rattle.prettyless_exports.specs.Texts.{IsPut};
 ghost use Rattle.prettyless_exports.specs.declared.area.Full.TheVariants.{Document};
 
 use crate::history::History;
+use crate::text::Put;
 use prettyless_sink::render::Render;
+
+/// The greatest length in bytes that this limit allows: 0 is no limit, and gives that of all areas.
+pub fn limit_from(limit: usize) -> usize
+    ensures { result ≡ limit_of limit }
+{
+    if limit == 0 { usize::MAX } else { limit }
+}
 
 /// Why an area takes no more.
 #[derive(Clone, Copy, Debug, PartialEq, Eq)]
@@ -72,6 +81,24 @@ impl<'o> Area<'o> {
         ensures { result ≡ length self.now.history.before }
     {
         self.out.len()
+    }
+
+    /// How much it holds of what it was given.
+    ///
+    /// `written` is how many bytes those are; after `Beginning` it is how many it was given.
+    pub fn put(&self, written: &mut usize) -> Put
+        ensures { IsPut self.now.limit self.now.history.given self.now.history.before self.now.out.now written.new result }
+    {
+        let capacity = self.out.len();
+        *written = self.count.min(capacity);
+        if self.failures > 0 {
+            return Put::PastLimit;
+        }
+        if self.count <= capacity {
+            return Put::Whole;
+        }
+        *written = self.count;
+        Put::Beginning
     }
 }
 

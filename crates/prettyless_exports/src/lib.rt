@@ -1,9 +1,12 @@
-//! Layouts into areas of bytes, for callers in other languages, and the sink over an area that is lent to a call.
+//! Layouts into areas of bytes, for callers in other languages: of programs, of JSON texts and of TOML texts. It has the sink
+//! over an area that is lent to a call.
 #![tactic(auto)]
 
 pub mod area;
 pub mod history;
+pub mod json_texts;
 pub mod lay;
-pub mod layout;
+pub mod programs;
 mod status;
 pub mod text;
+pub mod toml_texts;

@@ -2,23 +2,23 @@
 ghost use Rattle.std.specs.Prelude.{◌≡◌};
 ghost use Rattle.prettyless_exports.specs.Numbers.{number_of};
 
+use crate::text::Put;
 use prettyless_program::Fault;
 
 /// How a call ended.
 #[derive(Clone, Copy, Debug, PartialEq, Eq)]
 pub enum Status {
-    /// The area holds the whole layout, of `written` bytes.
-    LaidOut,
-    /// The area holds the beginning of the layout that it has room for. `written` is the length of the layout in bytes.
-    TooSmall,
-    /// Memory was refused. The area holds `written` bytes of a beginning of the layout.
+    /// The area holds the layout, or a beginning of it.
+    LaidOut(Put),
+    /// Memory was refused. Of the layout of a program, the area holds a beginning of `written` bytes, and of a text's none.
     Memory,
-    /// The layout of the document fails. The area holds the bytes before the node that fails, as far as there is room:
-    /// `written` of them.
+    /// The layout of a program's document fails. The area holds the bytes before the node that fails, as far as there is room:
+    /// `written` of them. Or the layout of a TOML text is no TOML. Then the area is as it was.
     Fails,
-    /// The layout is longer than the limit. The area holds what is within the limit, as far as there is room: `written`
-    /// bytes.
-    PastLimit,
+    /// The bytes are no JSON text.
+    NotJson,
+    /// The bytes are no TOML text, or brackets are too deep in one another.
+    NotToml,
     /// The bytes were not read as a document. The area is as it was, and `written` is 0.
     Refused(Fault),
 }
@@ -29,11 +29,13 @@ impl Status {
         ensures { result ≡ number_of self }
     {
         match self {
-            Status::LaidOut => 0,
-            Status::TooSmall => 1,
+            Status::LaidOut(Put::Whole) => 0,
+            Status::LaidOut(Put::Beginning) => 1,
             Status::Memory | Status::Refused(Fault::Memory) => 2,
             Status::Fails => 3,
-            Status::PastLimit => 4,
+            Status::LaidOut(Put::PastLimit) => 4,
+            Status::NotJson => 5,
+            Status::NotToml => 6,
             Status::Refused(Fault::Instruction) => 16,
             Status::Refused(Fault::Operand) => 17,
             Status::Refused(Fault::Text) => 18,

@@ -1,11 +1,11 @@
 //! Texts that are put into areas of bytes.
-ghost use Rattle.std.specs.Prelude.{OnOk, OnErr};
-ghost use Rattle.prettyless_exports.specs.Overlay.{PutsAll, PutsToLimit};
-ghost use Rattle.prettyless_exports.specs.Answers.{Holds};
+ghost use Rattle.std.specs.Prelude.{◌≡◌};
+ghost use Rattle.prettyless_exports.specs.Overlay.{Holds};
 ghost use Rattle.prettyless_exports.specs.Texts.{IsPut};
 
-use crate::area::{Area, Full};
+use crate::area::Area;
 use prettyless_sink::render::Render;
+use text_places::Place;
 
 /// How much of a text was put into an area.
 #[derive(Clone, Copy, Debug, PartialEq, Eq)]
@@ -18,17 +18,6 @@ pub enum Put {
     PastLimit,
 }
 
-/// Puts a text into an area.
-fn put_within(text: &str, limit: usize, out: &mut [u8], count: &mut usize) -> Result<(), Full>
-    ensures ok { OnOk result (PutsAll limit text.now out.old out.new count.new) }
-    ensures err { OnErr result (PutsToLimit limit text.now out.old out.new count.new) }
-{
-    let mut area = Area::new(out, limit);
-    let answer = area.write_str_all(text);
-    *count = area.count();
-    answer
-}
-
 /// Puts a text into an area of bytes from its start, as far as there is room and within a limit in bytes. Past that the area
 /// stays as it was.
 ///
@@ -36,18 +25,9 @@ fn put_within(text: &str, limit: usize, out: &mut [u8], count: &mut usize) -> Re
 pub fn put_text(text: &str, limit: usize, out: &mut [u8], written: &mut usize) -> Put
     ensures { IsPut limit text.now out.old out.new written.new result }
 {
-    let capacity = out.len();
-    let mut count = 0;
-    let answer = put_within(text, limit, out, &mut count);
-    *written = count.min(capacity);
-    match answer {
-        Ok(()) if count <= capacity => Put::Whole,
-        Ok(()) => {
-            *written = count;
-            Put::Beginning
-        }
-        Err(_) => Put::PastLimit,
-    }
+    let mut area = Area::new(out, limit);
+    let _ = area.write_str_all(text);
+    area.put(written)
 }
 
 /// Puts a name into an area of bytes from its start, as far as there is room. Past that the area stays as it was.
@@ -57,7 +37,24 @@ pub fn put_name(name: &str, out: &mut [u8], written: &mut usize)
     ensures { Holds name.now out.old out.new written.new }
 {
     let capacity = out.len();
-    let mut count = 0;
-    let _ = put_within(name, name.len(), out, &mut count);
-    *written = count.min(capacity);
+    let _ = put_text(name, name.len(), out, written);
+    *written = (*written).min(capacity);
+}
+
+/// Says what a text lacks at a place: the name of what was expected there goes into an area, as `put_name` puts it.
+pub(crate) fn put_fault(
+    expected: &str,
+    place: Place,
+    out: &mut [u8],
+    written: &mut usize,
+    line: &mut usize,
+    column: &mut usize,
+)
+    ensures name { Holds expected.now out.old out.new written.new }
+    ensures line { line.new ≡ place.line }
+    ensures column { column.new ≡ place.column }
+{
+    put_name(expected, out, written);
+    *line = place.line;
+    *column = place.column;
 }

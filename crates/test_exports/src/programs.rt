@@ -1,7 +1,7 @@
 //! Layouts of programs into areas of bytes: each instruction, each option, and each status.
 use crate::areas::{Answer, compare_answers};
 use prettyless::{BoxAllocator, DocPtr};
-use prettyless_exports::layout::program_layout;
+use prettyless_exports::programs::program_layout;
 use prettyless_program::decode;
 use std::alloc::Global;
 use std::process::Abort;

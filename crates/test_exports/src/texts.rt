@@ -1,10 +1,10 @@
 //! Layouts of JSON and TOML texts into an area of fifteen bytes.
 use crate::areas::{Answer, compare_answers};
-use json_exports::layout::json_layout;
+use prettyless_exports::json_texts::json_layout;
+use prettyless_exports::toml_texts::toml_layout;
 use std::alloc::{AllocError, Global};
 use std::process::Abort;
 use std::test::Fail;
-use toml_exports::layout::toml_layout;
 
 #[derive(Clone, Copy)]
 enum Language {

@@ -5,6 +5,8 @@
 //! what stands there.
 #![tactic(auto)]
 
+mod request;
+
 ghost use Rattle.std.specs.Prelude.{◌≡◌, IfErr, IfOk, OnOk};
 ghost use Rattle.std.specs.Io.KnownBytes.{Appends};
 ghost use Rattle.formatter_files.specs.Layouts.{IsOfWriter};
@@ -15,6 +17,7 @@ use formatter_files::ending::Ending;
 use formatter_files::files::{ending_after, ending_of, lay_out_all};
 use formatter_files::formatter::{Formatter, LayoutError, Verdict};
 use formatter_files::message::{say_expected, say_opened, say_word};
+use request::requested;
 use std::fs::Files;
 use std::io;
 use std::io::{ErrorKind, Write};
@@ -24,7 +27,6 @@ use std::str::from_utf8;
 use toml_formatter::{FormatError, Style, formatted};
 use toml_grammar::{Found, refusal_of};
 use toml_lexemes::Lexeme;
-use tomlfmt_request::request::requested;
 
 // Whether a string is one of several lines.
 fn has_lines(text: &str) -> bool {

@@ -1,4 +1,0 @@
-//! What the words of `tomlfmt` ask for.
-#![tactic(auto)]
-
-pub mod request;
