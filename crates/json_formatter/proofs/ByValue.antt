@@ -1,10 +1,7 @@
--- A text is laid out by the value that its lexemes spell.
+-- A text is laid out by the value that its pieces spell.
 use Rattle.std.proofs.Common.{◌≡◌, refl, sym, ◌∙◌, ap, ℕ, suc, ◌+◌, ◌≤◌, false, List, [], ◌∷◌, append-nil, arith}
 use Rattle.std.specs.List.{fold}
 use Rattle.json_validity.specs.Document.{max_depth}
-use Rattle.json_lexemes.proofs.Grammar.{spell_document}
-use Rattle.json_lexemes.specs.Grammar.{Value, spelled, depth, IsFormed}
-use Rattle.json_lexemes.specs.Lexemes.{lexemes}
 use Rattle.prettyless_model.specs.declared.mode.Mode.TheVariants.{Break}
 use Rattle.prettyless_model.specs.Layout.{Whole, bytes_in, breaks, initial, lay, layout}
 use Rattle.prettyless_model.specs.Options.{options_at}
@@ -15,15 +12,18 @@ use Rattle.prettyless.specs.Tree.{Tree, Nil}
 use Rattle.json_formatter.specs.declared.style.Style.{Style}
 use Rattle.json_formatter.specs.BlankLines.{with_kept_lines}
 use Rattle.json_formatter.specs.ByValue.{LayoutsGoByValues, TextsAreLaidByValues, laid_value}
+use Rattle.json_formatter.specs.Pieces.{text_pieces}
 use Rattle.json_formatter.specs.Spelling.{with_spelling}
-use Rattle.json_formatter.specs.Documents.{Read, laid, many, onto, read, until, lexemes_tree, value}
+use Rattle.json_formatter.specs.Values.{PiecedValue as Value, pieced as spelled, pieced_depth as depth, IsFormedPieced as IsFormed}
+use Rattle.json_formatter.specs.Documents.{Read, bounded, laid, many, onto, read, until, lexemes_tree, value}
 use Rattle.json_formatter.proofs.LaidParts.{Rested, end_follows}
 use Rattle.json_formatter.proofs.LaidValues.{value_lays}
+use Rattle.json_formatter.proofs.Pieces.{spell_pieces}
 use Rattle.json_formatter.proofs.Readers.{until_more}
 use Rattle.json_formatter.proofs.Shrinking.{value_shrinks}
 use Rattle.json_formatter.proofs.ValueTrees.{begins, reads_value, tree}
 
--- the document of a value's lexemes is that of the value
+-- the document of a value's pieces is that of the value
 pub tree_is : (style : Style) (v : Value) → depth v ≤ max_depth → IsFormed v → lexemes_tree style (spelled v) ≡ tree style v
 unfolding many
 tree_is style v deep formed =
@@ -56,13 +56,14 @@ value_layout style v formed =
 
 pub laid_by_value : LayoutsGoByValues
 laid_by_value style text v is deep formed =
-    let bytes : laid style (lexemes_tree style (lexemes text)) ≡ laid_value style 0 0 0 v =
-    ap (λ (ss : List (List ℕ)). laid style (lexemes_tree style ss)) is
-    ∙ ap (laid style) (tree_is style v deep formed)
-    ∙ ap bytes_in (value_layout style v formed) in
+    let narrow = bounded style in
+    let bytes : laid narrow (lexemes_tree narrow (text_pieces style text)) ≡ laid_value narrow 0 0 0 v =
+    ap (λ (ss : List (List ℕ)). laid narrow (lexemes_tree narrow ss)) is
+    ∙ ap (laid narrow) (tree_is narrow v deep formed)
+    ∙ ap bytes_in (value_layout narrow v formed) in
     ap (λ (l : List ℕ). with_spelling style text (with_kept_lines style text l)) bytes
 
 pub texts_laid_by_value : TextsAreLaidByValues
 texts_laid_by_value style text j is =
-    let spell = spell_document text j is in
-    (spell.value, spell.spells, laid_by_value style text spell.value spell.spells spell.shallow spell.formed)
+    let spell = spell_pieces style text j is in
+    (spell.value, spell.spells, spell.lexemes, laid_by_value style text spell.value spell.spells spell.shallow spell.formed)

@@ -3,9 +3,6 @@ use Rattle.std.proofs.Common.{◌≡◌, refl, sym, ◌∙◌, ap, subst, ℕ, z
 use Rattle.std.specs.Prelude.{pos}
 use Rattle.std.specs.List.{fold}
 use Rattle.json.specs.Word.{ends_word}
-use Rattle.json_lexemes.specs.Grammar.{Value, alone, array, object, Items, no_items, item, Members, no_members}
-use Rattle.json_lexemes.specs.Grammar as g
-use Rattle.json_lexemes.specs.Grammar.{IsFormed, AreFormedItems, AreFormedMembers}
 use Rattle.prettyless_model.specs.Metrics.{is_ascii}
 use Rattle.prettyless.specs.Built.{IsNotNil, append, enclose, group, nest}
 use Rattle.prettyless.specs.Counted.{text}
@@ -14,7 +11,12 @@ use Rattle.prettyless.specs.Tree.{Tree, Nil, Text, Append, Group}
 use Rattle.json_formatter.specs.declared.style.Style.{Style}
 use Rattle.json_formatter.specs.ByValue.{items_fill}
 use Rattle.json_formatter.specs.Documents.{margin, gap_in, listed}
-use Rattle.json_formatter.proofs.ValueTrees.{tree, item_trees, member_trees, item_marked, member_marked, key_tree, key_formed}
+use Rattle.json_formatter.specs.Values.{PiecedValue as Value, alone, array, object, PiecedItems as Items, no_items, item}
+use Rattle.json_formatter.specs.Values.{PiecedMembers as Members, no_members}
+use Rattle.json_formatter.specs.Values as g
+use Rattle.json_formatter.specs.Values.{IsFormedPieced as IsFormed, AreFormedPiecedItems as AreFormedItems}
+use Rattle.json_formatter.specs.Values.{AreFormedPiecedMembers as AreFormedMembers}
+use Rattle.json_formatter.proofs.ValueTrees.{tree, item_trees, member_trees, item_marked, member_marked, key_tree, key_formed, opening}
 
 -- appended, where both are something
 pub append_is : (x y : Tree) → IsNotNil x → IsNotNil y → append x y ≡ Append x y
@@ -54,18 +56,26 @@ nested_some : (k : ℕ) (l r : Tree) → IsNotNil (nest (pos k) (Append l r))
 nested_some zero l r = tt
 nested_some (suc k) l r = tt
 
-lines_are : (inside gap : Tree) (a z : ℕ) (k : ℕ) (x : Tree) (xs : List Tree) → IsNotNil inside → IsNotNil gap → IsNotNil x → AreSome xs
-    → group (enclose (Text (a ∷ []))
+-- what stands between brackets
+bracketed : (a : ℕ) (b : Bool) (l r : Tree) (z : ℕ)
+    → group (enclose (opening a b) (Append l r) (Text (z ∷ []))) ≡ Group (Append (Append (opening a b) (Append l r)) (Text (z ∷ [])))
+bracketed a true l r z = refl
+bracketed a false l r z = refl
+
+lines_are : (inside gap : Tree) (a : ℕ) (b : Bool) (z : ℕ) (k : ℕ) (x : Tree) (xs : List Tree) → IsNotNil inside → IsNotNil gap
+    → IsNotNil x → AreSome xs
+    → group (enclose (opening a b)
     (append (nest (pos k) (append inside (fold (λ z y. append (append z gap) y) x xs))) inside) (Text (z ∷ [])))
-    ≡ Group (within inside (Text (a ∷ [])) (chain gap x xs) (Text (z ∷ [])) k)
-lines_are inside gap a z k x xs e g h j =
+    ≡ Group (within inside (opening a b) (chain gap x xs) (Text (z ∷ [])) k)
+lines_are inside gap a b z k x xs e g h j =
     let items = chain gap x xs in
-    ap (λ (i : Tree). group (enclose (Text (a ∷ [])) (append (nest (pos k) (append inside i)) inside) (Text (z ∷ []))))
+    ap (λ (i : Tree). group (enclose (opening a b) (append (nest (pos k) (append inside i)) inside) (Text (z ∷ []))))
     (chain_is gap x xs g h j)
-    ∙ ap (λ (l : Tree). group (enclose (Text (a ∷ [])) (append (nest (pos k) l) inside) (Text (z ∷ []))))
+    ∙ ap (λ (l : Tree). group (enclose (opening a b) (append (nest (pos k) l) inside) (Text (z ∷ []))))
     (append_is inside items e (chain_some gap x xs h))
-    ∙ ap (λ (l : Tree). group (enclose (Text (a ∷ [])) l (Text (z ∷ []))))
+    ∙ ap (λ (l : Tree). group (enclose (opening a b) l (Text (z ∷ []))))
     (append_is (nest (pos k) (Append inside items)) inside (nested_some k inside items) e)
+    ∙ bracketed a b (nest (pos k) (Append inside items)) inside z
 
 -- the gaps of a list are something
 margin_some : (blanks : Bool) → IsNotNil (margin blanks)
@@ -76,10 +86,11 @@ gap_some : (fills : Bool) → IsNotNil (gap_in fills)
 gap_some true = tt
 gap_some false = tt
 
-pub listed_is : (blanks fills : Bool) (a z : ℕ) (k : ℕ) (x : Tree) (xs : List Tree) → IsNotNil x → AreSome xs
-    → listed blanks fills (Text (a ∷ [])) (x ∷ xs) (Text (z ∷ [])) (pos k) ≡ Group
-    (within (margin blanks) (Text (a ∷ [])) (chain (gap_in fills) x xs) (Text (z ∷ [])) k)
-listed_is blanks fills a z k x xs h j = lines_are (margin blanks) (gap_in fills) a z k x xs (margin_some blanks) (gap_some fills) h j
+pub listed_is : (blanks fills : Bool) (a : ℕ) (b : Bool) (z : ℕ) (k : ℕ) (x : Tree) (xs : List Tree) → IsNotNil x → AreSome xs
+    → listed blanks fills (opening a b) (x ∷ xs) (Text (z ∷ [])) (pos k) ≡ Group
+    (within (margin blanks) (opening a b) (chain (gap_in fills) x xs) (Text (z ∷ [])) k)
+listed_is blanks fills a b z k x xs h j =
+    lines_are (margin blanks) (gap_in fills) a b z k x xs (margin_some blanks) (gap_some fills) h j
 
 -- ---- the documents of values are something
 
@@ -102,17 +113,18 @@ pub member_marked_some : (t : Tree) (ms : Members) → IsNotNil t → IsNotNil (
 member_marked_some t no_members h = h
 member_marked_some t (g.member k v ms) h = append_some t (Text (44 ∷ [])) h tt
 
-listed_some : (blanks fills : Bool) (a z k : ℕ) (xs : List Tree) → AreSome xs
-    → IsNotNil (listed blanks fills (Text (a ∷ [])) xs (Text (z ∷ [])) (pos k))
-listed_some blanks fills a z k [] h = tt
-listed_some blanks fills a z k (x ∷ xs) h = subst IsNotNil (sym (listed_is blanks fills a z k x xs h.0 h.1)) tt
+listed_some : (blanks fills : Bool) (a : ℕ) (b : Bool) (z k : ℕ) (xs : List Tree) → AreSome xs
+    → IsNotNil (listed blanks fills (opening a b) xs (Text (z ∷ [])) (pos k))
+listed_some blanks fills a true z k [] h = tt
+listed_some blanks fills a false z k [] h = tt
+listed_some blanks fills a b z k (x ∷ xs) h = subst IsNotNil (sym (listed_is blanks fills a b z k x xs h.0 h.1)) tt
 
 mutual
   pub value_some : (style : Style) (v : Value) → IsFormed v → IsNotNil (tree style v)
   value_some style (alone s) h = text_some s h
-  value_some style (array vs) h = listed_some false (items_fill style.fill vs) 91 93 style.indent (item_trees style vs)
+  value_some style (array b vs) h = listed_some false (items_fill style.fill vs) 91 b 93 style.indent (item_trees style vs)
       (items_some style vs h)
-  value_some style (object ms) h = listed_some (not style.compact) false 123 125 style.indent (member_trees style ms)
+  value_some style (object b ms) h = listed_some (not style.compact) false 123 b 125 style.indent (member_trees style ms)
       (members_some style ms h)
 
   pub items_some : (style : Style) (vs : Items) → AreFormedItems vs → AreSome (item_trees style vs)

@@ -3,8 +3,6 @@ use Rattle.std.proofs.Common.{◌≡◌, refl, sym, ◌∙◌, ap, subst, ℕ, s
 use Rattle.std.proofs.Common.{length, append_assoc, append-nil}
 use Rattle.std.proofs.lemmas.Bool.{and_parts}
 use Rattle.json.specs.Word.{ends_word}
-use Rattle.json_lexemes.specs.Grammar.{Value, alone, array, object, Items, no_items, item}
-use Rattle.json_lexemes.specs.Grammar.{AreFormedItems}
 use Rattle.prettyless_model.specs.declared.mode.Mode.TheVariants.{Break}
 use Rattle.prettyless_model.specs.Column.{saturating_add}
 use Rattle.prettyless_model.specs.Metrics.{text_width}
@@ -21,6 +19,8 @@ use Rattle.json_formatter.specs.declared.style.Style.{Style}
 use Rattle.json_formatter.specs.ByValue.{filled_after, filled_lines, item_comma, items_fill, new_line}
 use Rattle.json_formatter.specs.Documents.{may_fill}
 use Rattle.json_formatter.specs.Flat.{flat_line, flat_width}
+use Rattle.json_formatter.specs.Values.{PiecedValue as Value, alone, array, object, PiecedItems as Items, no_items, item}
+use Rattle.json_formatter.specs.Values.{AreFormedPiecedItems as AreFormedItems}
 use Rattle.json_formatter.proofs.Chains.{append_is, chain, text_some}
 use Rattle.json_formatter.proofs.FlatTrees.{plus_nothing}
 use Rattle.json_formatter.proofs.LaidLists.{Lays, LaysLines, word_lays}
@@ -153,8 +153,8 @@ filled_lay {style} {n} {j} {st} (item (alone s) vs) {c} {z} {b} l e h before =
     (append_assoc b (gap_bytes j y ++ (s ++ item_comma vs)) _
     ∙ ap (λ (x : List ℕ). b ++ x) (append_assoc (gap_bytes j y) (s ++ item_comma vs) _ ∙ sym (filled_more style j c s vs y refl)))
     later
-filled_lay (item (array ws) vs) l e h before = absurd (cc)
-filled_lay (item (object ms) vs) l e h before = absurd (cc)
+filled_lay (item (array keeps ws) vs) l e h before = absurd (cc)
+filled_lay (item (object keeps ms) vs) l e h before = absurd (cc)
 
 -- the first number, and those after it
 pub filled_items : (style : Style) (n j : ℕ) (v : Value) (vs : Items) → j ≤ greatest → items_fill style.fill (item v vs) ≡ true
@@ -168,5 +168,5 @@ filled_items style n j (alone s) vs l e h =
       lays = λ u r.
           filled_lay vs l (and_parts (may_fill style.fill s) (items_fill style.fill vs) e).1 h.1 (number_lays style n j j s vs u h.0 r);
     }
-filled_items style n j (array ws) vs l e h = absurd (cc)
-filled_items style n j (object ms) vs l e h = absurd (cc)
+filled_items style n j (array keeps ws) vs l e h = absurd (cc)
+filled_items style n j (object keeps ms) vs l e h = absurd (cc)

@@ -3,20 +3,23 @@ use Rattle.std.proofs.Common.{◌≡◌, refl, sym, ◌∙◌, ap, ap₂, subst,
 use Rattle.std.proofs.Common.{length, append_assoc, append-nil, inl, inr, arith}
 use Rattle.std.specs.Prelude.{pos}
 use Rattle.json.specs.Word.{ends_word}
-use Rattle.json_lexemes.specs.Grammar.{Value, alone, array, object, Items, no_items, item, Members, no_members}
-use Rattle.json_lexemes.specs.Grammar as g
-use Rattle.json_lexemes.specs.Grammar.{IsFormed, AreFormedItems, AreFormedMembers}
 use Rattle.prettyless_model.specs.Metrics.{text_width}
 use Rattle.prettyless.specs.Built.{IsNotNil, append, nest}
 use Rattle.prettyless.specs.Counted.{text}
 use Rattle.prettyless.specs.Lines.{space}
 use Rattle.prettyless.specs.Tree.{Tree, Text, Append, Group}
 use Rattle.json_formatter.specs.declared.style.Style.{Style}
-use Rattle.json_formatter.specs.ByValue.{brace_blank, flat, item_comma, items_fill, member_comma, more_flat_items, more_flat_members}
+use Rattle.json_formatter.specs.ByValue.{brace_blank, flat, item_comma, items_fill, items_kept, kept_if, member_comma, members_kept}
+use Rattle.json_formatter.specs.ByValue.{more_flat_items, more_flat_members, value_width}
+use Rattle.json_formatter.specs.Values.{PiecedValue as Value, alone, array, object, PiecedItems as Items, no_items, item}
+use Rattle.json_formatter.specs.Values.{PiecedMembers as Members, no_members}
+use Rattle.json_formatter.specs.Values as g
+use Rattle.json_formatter.specs.Values.{IsFormedPieced as IsFormed, AreFormedPiecedItems as AreFormedItems}
+use Rattle.json_formatter.specs.Values.{AreFormedPiecedMembers as AreFormedMembers}
 use Rattle.json_formatter.specs.Documents.{margin, gap_in, listed}
 use Rattle.json_formatter.specs.Flat.{blank_if, flat_width, flat_line}
 use Rattle.json_formatter.proofs.LaidParts.{IsFlat, IsTextOf, text_is}
-use Rattle.json_formatter.proofs.ValueTrees.{tree, item_trees, member_trees, item_marked, member_marked, key_tree, key_formed}
+use Rattle.json_formatter.proofs.ValueTrees.{tree, item_trees, member_trees, item_marked, member_marked, key_tree, key_formed, opening}
 use Rattle.json_formatter.proofs.Chains.{append_is, append_some, chain, within, AreSome, listed_is, value_some}
 use Rattle.json_formatter.proofs.Chains.{items_some, members_some, text_some, key_some}
 
@@ -90,25 +93,30 @@ edges_joined : (e b s z : List ℕ) → ((e ++ (b ++ s)) ++ e) ++ z ≡ e ++ (b 
 edges_joined e b s z =
     append_assoc (e ++ (b ++ s)) e z ∙ append_assoc e (b ++ s) (e ++ z) ∙ ap (λ (l : List ℕ). e ++ l) (append_assoc b s (e ++ z))
 
+-- the bracket that opens a list
+opening_flat : (a : ℕ) (keeps : Bool) → IsFlat (opening a keeps) (a ∷ []) (1 + kept_if keeps)
+opening_flat a true = record { inline = tt; bytes = refl; columns = refl }
+opening_flat a false = record { inline = tt; bytes = refl; columns = refl }
+
 -- a list: its first member, and those after it
-list_flat : {t : Tree} {xs : List Tree} {b s : List ℕ} {u w : ℕ} (blanks fills : Bool) (a z k : ℕ) → AreSome (t ∷ xs) → IsFlat t b u
-    → FlatAfter (gap_in fills) xs s w
-    → IsFlat (listed blanks fills (Text (a ∷ [])) (t ∷ xs) (Text (z ∷ [])) (pos k))
+list_flat : {t : Tree} {xs : List Tree} {b s : List ℕ} {u w : ℕ} (blanks fills : Bool) (a : ℕ) (keeps : Bool) (z k : ℕ)
+    → AreSome (t ∷ xs) → IsFlat t b u → FlatAfter (gap_in fills) xs s w
+    → IsFlat (listed blanks fills (opening a keeps) (t ∷ xs) (Text (z ∷ [])) (pos k))
     (a ∷ (flat_line (blank_if blanks) ++ (b ++ (s ++ (flat_line (blank_if blanks) ++ z ∷ [])))))
-    ((2 + (flat_width (blank_if blanks) + flat_width (blank_if blanks))) + (u + w))
-list_flat {t} {xs} {b} {s} {u} {w} blanks fills a z k some h later =
+    (((2 + (flat_width (blank_if blanks) + flat_width (blank_if blanks))) + (u + w)) + kept_if keeps)
+list_flat {t} {xs} {b} {s} {u} {w} blanks fills a keeps z k some h later =
     let e = flat_line (blank_if blanks) in
     let v = flat_width (blank_if blanks) in
     let items = chain (gap_in fills) t xs in
-    let one_flat : (x : ℕ) → IsFlat (Text (x ∷ [])) (x ∷ []) 1 = λ x. record { inline = tt; bytes = refl; columns = refl } in
+    let close_flat : IsFlat (Text (z ∷ [])) (z ∷ []) 1 = record { inline = tt; bytes = refl; columns = refl } in
     let inside = nest_flat k (margin blanks) items _ _ (both_flat (margin_flat blanks) (later.after t b u h)) in
     let lines = both_flat inside (margin_flat blanks) in
-    let front = both_flat (one_flat a) lines in
-    let all = both_flat front (one_flat z) in
-    let grouped : IsFlat (Group (within (margin blanks) (Text (a ∷ [])) items (Text (z ∷ [])) k)) _ _ =
+    let front = both_flat (opening_flat a keeps) lines in
+    let all = both_flat front close_flat in
+    let grouped : IsFlat (Group (within (margin blanks) (opening a keeps) items (Text (z ∷ [])) k)) _ _ =
     record { inline = all.inline; bytes = all.bytes; columns = all.columns } in
-    subst (λ (d : Tree). IsFlat d (a ∷ (e ++ (b ++ (s ++ (e ++ z ∷ []))))) ((2 + (v + v)) + (u + w)))
-    (sym (listed_is blanks fills a z k t xs some.0 some.1))
+    subst (λ (d : Tree). IsFlat d (a ∷ (e ++ (b ++ (s ++ (e ++ z ∷ []))))) (((2 + (v + v)) + (u + w)) + kept_if keeps))
+    (sym (listed_is blanks fills a keeps z k t xs some.0 some.1))
     (flat_same (ap (λ (l : List ℕ). a ∷ l) (edges_joined e b s (z ∷ []))) (omega arith) grouped)
 
 -- ---- items and members
@@ -121,7 +129,7 @@ items_after style (item v vs) = 32 ∷ ((flat_line (flat style v) ++ item_comma 
 abbrev items_after_width : Style → Items → ℕ
 items_after_width style no_items = 0
 items_after_width style (item v vs) =
-    1 + ((flat_width (flat style v) + length (item_comma vs)) + items_after_width style vs)
+    1 + ((value_width style v + length (item_comma vs)) + items_after_width style vs)
 
 -- a key, its colon and a space
 abbrev key_line : List ℕ → List ℕ
@@ -138,7 +146,7 @@ members_after style (g.member k v ms) =
 abbrev members_after_width : Style → Members → ℕ
 members_after_width style no_members = 0
 members_after_width style (g.member k v ms) =
-    1 + (((key_width k + flat_width (flat style v)) + length (member_comma ms)) + members_after_width style ms)
+    1 + (((key_width k + value_width style v) + length (member_comma ms)) + members_after_width style ms)
 
 -- what comes after an item, and after a member, is its comma, those after it and the bracket
 four_parts : (a b c d : List ℕ) → ((a ++ b) ++ c) ++ d ≡ a ++ (b ++ (c ++ d))
@@ -153,7 +161,7 @@ more_line style (item v vs) =
     ∙ sym (four_parts (flat_line (flat style v)) (item_comma vs) (items_after style vs) (93 ∷ [])))
 
 more_width : (style : Style) (vs : Items)
-    → flat_width (more_flat_items style vs) ≡ length (item_comma vs) + (items_after_width style vs + 1)
+    → flat_width (more_flat_items style vs) + items_kept vs ≡ length (item_comma vs) + (items_after_width style vs + 1)
 more_width style no_items = refl
 more_width style (item v vs) =
     let h = more_width style vs in let k = width_joined (flat style v) (more_flat_items style vs) in omega (arith, h, k)
@@ -178,7 +186,7 @@ more_members_line style (g.member k v ms) =
     ∙ sym (four_parts (key_line k ++ flat_line (flat style v)) (member_comma ms) (members_after style ms) (blank_line style ++ 125 ∷ [])))
 
 more_members_width : (style : Style) (ms : Members)
-    → flat_width (more_flat_members style ms)
+    → flat_width (more_flat_members style ms) + members_kept ms
     ≡ length (member_comma ms) + (members_after_width style ms + (blank_width style + 1))
 more_members_width style no_members = let h = width_joined (brace_blank style) ((125 ∷ []) ∷ []) in omega (arith, h)
 more_members_width style (g.member k v ms) =
@@ -221,23 +229,25 @@ member_flat k t b w e some h =
     (both_flat (key_flat k e) h)
 
 -- two brackets
-empty_flat : (blanks fills : Bool) (a z k : ℕ) → IsFlat (listed blanks fills (Text (a ∷ [])) [] (Text (z ∷ [])) (pos k)) (a ∷ z ∷ []) 2
-empty_flat blanks fills a z k = record { inline = (tt, tt); bytes = refl; columns = refl }
+empty_flat : (blanks fills : Bool) (a : ℕ) (keeps : Bool) (z k : ℕ)
+    → IsFlat (listed blanks fills (opening a keeps) [] (Text (z ∷ [])) (pos k)) (a ∷ z ∷ []) (2 + (kept_if keeps + 0))
+empty_flat blanks fills a true z k = record { inline = (tt, tt); bytes = refl; columns = refl }
+empty_flat blanks fills a false z k = record { inline = (tt, tt); bytes = refl; columns = refl }
 
 pub plus_nothing : (n : ℕ) → n + 0 ≡ n
 plus_nothing n = omega arith
 
 mutual
   pub value_flat : (style : Style) (v : Value) → IsFormed v
-      → IsFlat (tree style v) (flat_line (flat style v)) (flat_width (flat style v))
-  value_flat style (alone s) h = flat_same (sym (append-nil s)) (sym (plus_nothing (text_width s))) (word_flat s h)
-  value_flat style (array no_items) h = empty_flat false true 91 93 style.indent
-  value_flat style (array (item v vs)) h =
+      → IsFlat (tree style v) (flat_line (flat style v)) (value_width style v)
+  value_flat style (alone s) h = flat_same (sym (append-nil s)) (omega arith) (word_flat s h)
+  value_flat style (array keeps no_items) h = empty_flat false true 91 keeps 93 style.indent
+  value_flat style (array keeps (item v vs)) h =
       let some = items_some style (item v vs) h in
       let fills = items_fill style.fill (item v vs) in
       let first = marked_flat (tree style v) vs _ _ (value_some style v h.0) (value_flat style v h.0) in
       let all =
-      list_flat false fills 91 93 style.indent some first
+      list_flat false fills 91 keeps 93 style.indent some first
       (items_flat style fills vs h.1) in
       let w = width_joined (flat style v) (more_flat_items style vs) in
       let m = more_width style vs in
@@ -247,8 +257,8 @@ mutual
       ∙ ap (λ (l : List ℕ). flat_line (flat style v) ++ l) (sym (more_line style vs))
       ∙ sym (line_joined (flat style v) (more_flat_items style vs))))
       (omega (arith, w, m)) all
-  value_flat style (object no_members) h = empty_flat (not style.compact) false 123 125 style.indent
-  value_flat style (object (g.member k v ms)) h =
+  value_flat style (object keeps no_members) h = empty_flat (not style.compact) false 123 keeps 125 style.indent
+  value_flat style (object keeps (g.member k v ms)) h =
       let some = members_some style (g.member k v ms) h in
       let e = key_formed k h.0 in
       let pair = member_flat k (tree style v) _ _ e (value_some style v h.1) (value_flat style v h.1) in
@@ -256,7 +266,7 @@ mutual
       member_marked_flat (append (key_tree k) (tree style v)) ms _ _
       (append_some (key_tree k) (tree style v) (key_some k e) (value_some style v h.1)) pair in
       let all =
-      list_flat (not style.compact) false 123 125 style.indent some first (members_flat style false ms h.2) in
+      list_flat (not style.compact) false 123 keeps 125 style.indent some first (members_flat style false ms h.2) in
       let inside = k ∷ (58 ∷ []) ∷ (32 ∷ []) ∷ (flat style v ++ more_flat_members style ms) in
       let b = width_joined (brace_blank style) inside in
       let w = width_joined (flat style v) (more_flat_members style ms) in

@@ -4,16 +4,20 @@ use Rattle.std.proofs.Common.{inr, ◌⊎◌, leb-true, arith}
 use Rattle.std.specs.Prelude.{if◌then◌else◌}
 use Rattle.std.proofs.lemmas.Bool.{cases_Bool}
 use Rattle.std.proofs.Math.Bool.{or-false, or-true}
-use Rattle.json_lexemes.specs.Grammar.{Value, alone, array, object, Items, no_items, item, Members}
-use Rattle.json_lexemes.specs.Grammar.{spelled, spelled_items, more_items, spelled_members}
-use Rattle.json_lexemes.specs.Grammar.{items_depth, members_depth, IsFormed, AreFormedItems, AreFormedMembers}
 use Rattle.json_formatter.specs.declared.style.Fill.{Fill}
 use Rattle.json_formatter.specs.declared.style.Style.{Style}
-use Rattle.json_formatter.specs.ByValue.{flat_items, items_fill}
+use Rattle.json_formatter.specs.ByValue.{items_fill}
+use Rattle.json_formatter.specs.Values.{PiecedValue as Value, alone, array, object, PiecedItems as Items, no_items, item}
+use Rattle.json_formatter.specs.Values.{PiecedMembers as Members}
+use Rattle.json_formatter.specs.Values.{pieced as spelled, pieced_items as spelled_items, more_pieced_items as more_items}
+use Rattle.json_formatter.specs.Values.{pieced_members as spelled_members}
+use Rattle.json_formatter.specs.Values.{pieced_items_depth as items_depth, pieced_members_depth as members_depth}
+use Rattle.json_formatter.specs.Values.{IsFormedPieced as IsFormed, AreFormedPiecedItems as AreFormedItems}
+use Rattle.json_formatter.specs.Values.{AreFormedPiecedMembers as AreFormedMembers}
 use Rattle.json_formatter.specs.Documents.{is_json_sign, may_fill, next_is}
-use Rattle.json_formatter.specs.Flat.{flat_width, width_to_close}
+use Rattle.json_formatter.specs.Flat.{width_to_close}
 use Rattle.json_formatter.specs.Gaps.{all_fill, comma_after}
-use Rattle.json_formatter.proofs.Closing.{all_width, items_width, members_width}
+use Rattle.json_formatter.proofs.Closing.{all_items_width, all_width, items_width, members_width}
 use Rattle.json_formatter.proofs.GapsPassed.{HasRoom, Walks, items_pass, members_pass, steps}
 use Rattle.json_formatter.proofs.GapsWords.{word_formed}
 use Rattle.json_formatter.proofs.ValueTrees.{array_fills, object_fills}
@@ -65,8 +69,7 @@ pub record IsReadAhead (style : Style) (rest : List (List ℕ)) (columns : ℕ) 
   pub width : (ss : List (List ℕ)) → width_to_close style.compact 1 (rest ++ ss) ≡ Some columns
   pub comma : (ss : List (List ℕ)) → comma_after 1 (rest ++ ss) ≡ next_is (is_json_sign 44) ss
 
-pub items_ahead : (style : Style) (vs : Items) → AreFormedItems vs
-    → IsReadAhead style (spelled_items vs) (flat_width (flat_items style vs))
+pub items_ahead : (style : Style) (vs : Items) → AreFormedItems vs → IsReadAhead style (spelled_items vs) (all_items_width style vs)
 items_ahead style vs h =
     let limit = 1 + items_depth vs in
     record {
@@ -96,8 +99,8 @@ one_fills fill (alone s) vs h ss e =
     let word = word_formed s h in
     rw (word.closes, word.comma)
     (ap (λ (b : Bool). (may_fill fill s || false) && b) e ∙ ap (λ (b : Bool). b && items_fill fill vs) (or-false (may_fill fill s)))
-one_fills fill (array ws) vs h ss e = rw (array_fills fill) refl
-one_fills fill (object ms) vs h ss e = rw (object_fills fill) refl
+one_fills fill (array keeps ws) vs h ss e = rw (array_fills keeps fill) refl
+one_fills fill (object keeps ms) vs h ss e = rw (object_fills keeps fill) refl
 
 -- a comma before them
 comma_fills : (fill : Fill) (ss : List (List ℕ)) → all_fill fill ((44 ∷ []) ∷ ss) ≡ all_fill fill ss

@@ -3,12 +3,16 @@ use Rattle.std.proofs.Common.{◌≡◌, refl, sym, ◌∙◌, ap, ℕ, ◌+◌,
 use Rattle.std.proofs.Common.{append-nil, le-leb, arith}
 use Rattle.std.proofs.lemmas.Bool.{or_parts}
 use Rattle.json.specs.Word.{ends_word}
-use Rattle.json_lexemes.specs.Grammar.{Value, alone, array, object, Items, no_items, item, Members, no_members, member}
-use Rattle.json_lexemes.specs.Grammar.{spelled, spelled_items, more_items, spelled_members, more_members}
-use Rattle.json_lexemes.specs.Grammar.{items_depth, members_depth, IsFormed, AreFormedItems, AreFormedMembers}
 use Rattle.prettyless_model.specs.Column.{saturating_add}
 use Rattle.json_formatter.specs.ByValue.{brace_blank, flat, flat_items, flat_members, more_flat_items, more_flat_members}
-use Rattle.json_formatter.specs.Documents.{closes, is_json_sign, opens}
+use Rattle.json_formatter.specs.Documents.{closes, is_json_sign, lexeme_of, opens}
+use Rattle.json_formatter.specs.Values.{PiecedValue as Value, alone, array, object, PiecedItems as Items, no_items, item}
+use Rattle.json_formatter.specs.Values.{PiecedMembers as Members, no_members, member}
+use Rattle.json_formatter.specs.Values.{bracket, pieced as spelled, pieced_items as spelled_items, more_pieced_items as more_items}
+use Rattle.json_formatter.specs.Values.{pieced_members as spelled_members, more_pieced_members as more_members}
+use Rattle.json_formatter.specs.Values.{pieced_items_depth as items_depth, pieced_members_depth as members_depth}
+use Rattle.json_formatter.specs.Values.{IsFormedPieced as IsFormed, AreFormedPiecedItems as AreFormedItems}
+use Rattle.json_formatter.specs.Values.{AreFormedPiecedMembers as AreFormedMembers}
 use Rattle.json_formatter.specs.Flat.{blank_if, flat_line}
 use Rattle.json_formatter.specs.Gaps.{flat_gap, flat_joint, gap_bytes, laid_from, space_if}
 use Rattle.json_formatter.specs.declared.gaps.Joint.{Joint}
@@ -18,7 +22,7 @@ use Rattle.json_formatter.specs.declared.style.Style.{Style}
 use Rattle.json_formatter.proofs.FlatTrees.{line_joined}
 use Rattle.json_formatter.proofs.GapsAhead.{one_less_open}
 use Rattle.json_formatter.proofs.GapsPassed.{HasRoom, Walks, both_stepped, items_pass, members_pass, steps}
-use Rattle.json_formatter.proofs.ValueTrees.{IsPlain, formed_plain, key_formed}
+use Rattle.json_formatter.proofs.ValueTrees.{IsPlain, formed_plain, key_formed, plain_lexeme}
 
 -- ---- blanks
 
@@ -37,12 +41,12 @@ parts_then xs ys l = sym (ap (λ (bs : List ℕ). bs ++ l) (line_joined xs ys) �
 word_joint : (s : List ℕ) → IsPlain s → flat_joint s ≡ joint.Nothing
 word_joint s p = rw (p.mark, p.brace) refl
 
--- ---- lexemes of a flat line
+-- ---- pieces of a flat line
 
 module _ (style : Style) where
-  -- a lexeme after its gap, in front of what is made of the next joint
+  -- the lexeme of a piece after its gap, in front of what is made of the next joint
   abbrev lexeme_laid : List ℕ → (Joint → List ℕ) → Joint → List ℕ
-  lexeme_laid s later j = gap_bytes (flat_gap style j s) ++ (s ++ later (flat_joint s))
+  lexeme_laid s later j = gap_bytes (flat_gap style j s) ++ (lexeme_of s ++ later (flat_joint s))
 
   -- lexemes after their gaps
   abbrev line_laid : List (List ℕ) → (Joint → List ℕ) → Joint → List ℕ
@@ -61,9 +65,9 @@ module _ (style : Style) where
 
   -- such a lexeme
   first_laid : (s : List ℕ) (xs : List (List ℕ)) (later : Joint → List ℕ) (j : Joint) → closes s ≡ false
-      → line_laid (s ∷ xs) later j ≡ before j ++ (s ++ line_laid xs later (flat_joint s))
+      → line_laid (s ∷ xs) later j ≡ before j ++ (lexeme_of s ++ line_laid xs later (flat_joint s))
   unfolding steps
-  first_laid s xs later j e = ap (λ (g : List ℕ). g ++ (s ++ line_laid xs later (flat_joint s))) (gap_is j s e)
+  first_laid s xs later j e = ap (λ (g : List ℕ). g ++ (lexeme_of s ++ line_laid xs later (flat_joint s))) (gap_is j s e)
 
   -- a word or a key
   word_laid : (s : List ℕ) (xs : List (List ℕ)) (later : Joint → List ℕ) (j : Joint) → ends_word s ≡ false
@@ -71,6 +75,7 @@ module _ (style : Style) where
   word_laid s xs later j e =
       let p = formed_plain s e in
       first_laid s xs later j p.closes
+      ∙ ap (λ (l : List ℕ). before j ++ (l ++ line_laid xs later (flat_joint s))) (plain_lexeme s p.opens)
       ∙ ap (λ (k : Joint). before j ++ (s ++ line_laid xs later k)) (word_joint s p)
 
   -- a key, its colon and what comes after them
@@ -137,11 +142,11 @@ module _ (style : Style) where
         word_laid s [] later j h
         ∙ ap (λ (l : List ℕ). before j ++ (s ++ l)) (none_laid later joint.Nothing)
         ∙ ap (λ (l : List ℕ). before j ++ (l ++ later joint.Nothing)) (sym (append-nil s))
-    value_laid (array vs) h later j =
-        first_laid (91 ∷ []) (spelled_items vs) later j refl
+    value_laid (array keeps vs) h later j =
+        first_laid (bracket 91 keeps) (spelled_items vs) later j refl
         ∙ ap (λ (l : List ℕ). before j ++ (91 ∷ l)) (items_laid vs h later)
-    value_laid (object ms) h later j =
-        first_laid (123 ∷ []) (spelled_members ms) later j refl
+    value_laid (object keeps ms) h later j =
+        first_laid (bracket 123 keeps) (spelled_members ms) later j refl
         ∙ ap (λ (l : List ℕ). before j ++ (123 ∷ l)) (members_laid ms h later)
 
     items_laid : (vs : Items) → AreFormedItems vs → LaidAs joint.Nothing (spelled_items vs) (flat_items style vs)

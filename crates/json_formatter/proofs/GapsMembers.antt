@@ -1,13 +1,15 @@
 -- Items and members in lines of their own are laid out as the definition by values says.
 use Rattle.std.proofs.Common.{◌≡◌, refl, sym, ◌∙◌, ap, subst, ℕ, ◌+◌, ◌≤◌, max, false, List, [], ◌∷◌, ◌++◌, length, append_assoc, arith}
 use Rattle.json.specs.Word.{head}
-use Rattle.json_lexemes.specs.Grammar.{Value, Items, item, Members, member}
-use Rattle.json_lexemes.specs.Grammar.{spelled, spelled_items, more_items, spelled_members, more_members}
-use Rattle.json_lexemes.specs.Grammar.{depth, items_depth, members_depth, IsFormed}
 use Rattle.prettyless_model.specs.Column.{saturating_add}
 use Rattle.prettyless_model.specs.Metrics.{text_width}
 use Rattle.json_formatter.specs.ByValue.{after_key, item_comma, item_lines, laid_value, member_comma, member_lines, new_line}
 use Rattle.json_formatter.specs.Gaps.{indent_at, laid_from}
+use Rattle.json_formatter.specs.Values.{PiecedValue as Value, PiecedItems as Items, item, PiecedMembers as Members, member}
+use Rattle.json_formatter.specs.Values.{pieced as spelled, pieced_items as spelled_items, more_pieced_items as more_items}
+use Rattle.json_formatter.specs.Values.{pieced_members as spelled_members, more_pieced_members as more_members}
+use Rattle.json_formatter.specs.Values.{pieced_depth as depth, pieced_items_depth as items_depth, pieced_members_depth as members_depth}
+use Rattle.json_formatter.specs.Values.{IsFormedPieced as IsFormed}
 use Rattle.json_formatter.specs.declared.gaps.Joint.TheVariants as joint
 use Rattle.json_formatter.specs.declared.style.Style.{Style}
 use Rattle.json_formatter.proofs.GapsFlat.{most}

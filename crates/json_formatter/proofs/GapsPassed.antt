@@ -1,9 +1,13 @@
 -- Machines that read lexemes and count how many lists are open: what they make of a value, and of the rest of a list.
 use Rattle.std.proofs.Common.{◌≡◌, refl, ◌∙◌, ap, ℕ, suc, ◌+◌, ◌≤◌, max, true, false, List, [], ◌∷◌, ◌++◌, append_assoc, arith}
-use Rattle.json_lexemes.specs.Grammar.{Value, alone, array, object, Items, no_items, item, Members, no_members, member}
-use Rattle.json_lexemes.specs.Grammar.{spelled, spelled_items, more_items, spelled_members, more_members}
-use Rattle.json_lexemes.specs.Grammar.{depth, items_depth, members_depth, IsFormed, AreFormedItems, AreFormedMembers}
 use Rattle.json_formatter.specs.Documents.{closes, opens}
+use Rattle.json_formatter.specs.Values.{PiecedValue as Value, alone, array, object, PiecedItems as Items, no_items, item}
+use Rattle.json_formatter.specs.Values.{PiecedMembers as Members, no_members, member}
+use Rattle.json_formatter.specs.Values.{bracket, pieced as spelled, pieced_items as spelled_items, more_pieced_items as more_items}
+use Rattle.json_formatter.specs.Values.{pieced_members as spelled_members, more_pieced_members as more_members}
+use Rattle.json_formatter.specs.Values.{pieced_depth as depth, pieced_items_depth as items_depth, pieced_members_depth as members_depth}
+use Rattle.json_formatter.specs.Values.{IsFormedPieced as IsFormed, AreFormedPiecedItems as AreFormedItems}
+use Rattle.json_formatter.specs.Values.{AreFormedPiecedMembers as AreFormedMembers}
 use Rattle.json_formatter.proofs.GapsWords.{IsWord, key_word, word_formed}
 
 -- ---- steps
@@ -110,10 +114,11 @@ module _ (A : Type 0) (limit : ℕ) (step : List ℕ → A → A) (make finish :
       value_passes {n = n} (alone s) h r ss =
           let word = word_formed s h in
           then_pass s [] ss (make n ss) r.some word.opens word.closes (none_stepped step (make n ss))
-      value_passes {n = n} (array vs) h r ss =
-          list_passes (91 ∷ []) (spelled_items vs) ss r refl (items_pass {n = n + 1} vs h (inner_room (items_depth vs) r) ss)
-      value_passes {n = n} (object ms) h r ss =
-          list_passes (123 ∷ []) (spelled_members ms) ss r refl (members_pass {n = n + 1} ms h (inner_room (members_depth ms) r) ss)
+      value_passes {n = n} (array keeps vs) h r ss =
+          list_passes (bracket 91 keeps) (spelled_items vs) ss r refl (items_pass {n = n + 1} vs h (inner_room (items_depth vs) r) ss)
+      value_passes {n = n} (object keeps ms) h r ss =
+          list_passes (bracket 123 keeps) (spelled_members ms) ss r refl
+          (members_pass {n = n + 1} ms h (inner_room (members_depth ms) r) ss)
 
       pub items_pass : {n : ℕ} (vs : Items) → AreFormedItems vs → HasRoom limit n (items_depth vs) → (ss : List (List ℕ))
           → Passes n (spelled_items vs) ss (finish n ss)

@@ -1,12 +1,15 @@
 -- The layout outside of lists on one line, lexeme by lexeme.
-use Rattle.std.proofs.Common.{◌≡◌, refl, sym, ◌∙◌, ap, ℕ, ◌+◌, ◌*◌, min, Bool, true, false, List, [], ◌∷◌, ◌++◌, length, append_assoc}
+use Rattle.std.proofs.Common.{◌≡◌, refl, sym, ◌∙◌, ap, ℕ, ◌+◌, ◌*◌, min, nat_le, Bool, true, false, not, ◌&&◌, List, [], ◌∷◌, ◌++◌}
+use Rattle.std.proofs.Common.{length, append_assoc}
 use Rattle.std.proofs.Common.{add-mul, one-mul, arith}
 use Rattle.std.specs.Prelude.{if◌then◌else◌}
-use Rattle.json_lexemes.specs.Grammar.{Items, no_items, item, Members, no_members, member, more_items, more_members}
 use Rattle.prettyless_model.specs.Column.{saturating_add}
+use Rattle.prettyless_model.specs.Metrics.{text_width}
 use Rattle.json_formatter.specs.ByValue.{inner, item_comma, member_comma, new_line}
-use Rattle.json_formatter.specs.Documents.{closes, is_json_sign, next_is}
-use Rattle.json_formatter.specs.Gaps.{comma_column, indent_at, laid_from, number_fits, word_end}
+use Rattle.json_formatter.specs.Documents.{closes, is_json_sign, next_is, opens}
+use Rattle.json_formatter.specs.Gaps.{comma_column, indent_at, laid_from}
+use Rattle.json_formatter.specs.Values.{PiecedItems as Items, no_items, item, PiecedMembers as Members, no_members, member}
+use Rattle.json_formatter.specs.Values.{more_pieced_items as more_items, more_pieced_members as more_members}
 use Rattle.json_formatter.specs.declared.gaps.Joint.{Joint}
 use Rattle.json_formatter.specs.declared.gaps.Joint.TheVariants as joint
 use Rattle.json_formatter.specs.declared.gaps.State.{State}
@@ -103,19 +106,28 @@ module _ (style : Style) (d c : ℕ) (fills : Bool) where
           → laid_from style (outside d c fills joint.Space) (s ∷ rest) ≡ after_space (s ∷ rest)
       at_lexeme s rest e f g = rw (e, f, g) refl
 
-  -- a space where a number fits the line with its comma, and else a new line
+  -- a word fits the line after a space, with its comma
+  abbrev pub word_fits : List ℕ → Bool → Bool
+  word_fits s comma =
+      nat_le (saturating_add (saturating_add (saturating_add c 1) (text_width s)) (comma_column comma)) style.width
+
+  -- a space where it does, and else a new line
   pub fill_first : (fit : Bool) (s : List ℕ) (rest : List (List ℕ)) → IsWord s →
-      number_fits style c s (next_is (is_json_sign 44) rest) ≡ fit
+      word_fits s (next_is (is_json_sign 44) rest) ≡ fit
       → laid_from style (outside d c fills joint.Fill) (s ∷ rest) ≡ (if fit then after_space (s ∷ rest) else on_new_line (s ∷ rest))
   fill_first true s rest w e = rw (w.closes, w.comma, w.colon, w.opens, e) refl
   fill_first false s rest w e = rw (w.closes, w.comma, w.colon, w.opens, e) refl
 
   -- ---- lexemes
 
+  -- the column after a word, which is not counted before a comma and a new line
+  abbrev pub word_column : List ℕ → List (List ℕ) → ℕ
+  word_column s rest = if not fills && next_is (is_json_sign 44) rest then c else saturating_add c (text_width s)
+
   -- a word or a key
   pub word_next : (s : List ℕ) (rest : List (List ℕ)) → IsWord s
       → laid_from style (outside d c fills joint.Nothing) (s ∷ rest)
-      ≡ s ++ laid_from style (outside d (word_end fills c s rest) fills joint.Nothing) rest
+      ≡ s ++ laid_from style (outside d (word_column s rest) fills joint.Nothing) rest
   word_next s rest w = rw (w.closes, w.comma, w.colon, w.opens) refl
 
 -- a line of its own for what closes a list
@@ -124,8 +136,8 @@ closing_line style d z = new_line (indent_at style d) ++ z ∷ []
 
 -- what closes a list
 pub close_next : (style : Style) (d c : ℕ) (fills : Bool) (z : ℕ) (rest : List (List ℕ))
-    → closes (z ∷ []) ≡ true → is_json_sign 44 (z ∷ []) ≡ false → is_json_sign 58 (z ∷ []) ≡ false
+    → closes (z ∷ []) ≡ true → is_json_sign 44 (z ∷ []) ≡ false → is_json_sign 58 (z ∷ []) ≡ false → opens (z ∷ []) ≡ false
     → Lays style (outside (d + 1) c fills joint.Nothing) ((z ∷ []) ∷ rest) (closing_line style d z) d rest
-close_next style d c fills z rest e f g =
+close_next style d c fills z rest e f g h =
     let parts = append_assoc (new_line (indent_at style d)) (z ∷ []) (laid_from style (rested d c) rest) in
-    record { column = c; is = rw (e, f, g, one_less_open d) (sym parts) }
+    record { column = c; is = rw (e, f, g, h, one_less_open d) (sym parts) }

@@ -1,8 +1,9 @@
 -- What a value and a key begin with: no comma, no colon, and nothing that closes a list.
 use Rattle.std.proofs.Common.{◌≡◌, refl, ℕ, Bool, true, false, ◌||◌, List, ◌∷◌, ◌++◌}
 use Rattle.json.specs.Word.{head, ends_word}
-use Rattle.json_lexemes.specs.Grammar.{Value, alone, array, object, spelled, spelled_items, spelled_members, IsFormed}
 use Rattle.json_formatter.specs.Documents.{closes, is_json_sign, opens}
+use Rattle.json_formatter.specs.Values.{PiecedValue as Value, alone, array, object, pieced as spelled, pieced_items as spelled_items}
+use Rattle.json_formatter.specs.Values.{pieced_members as spelled_members, IsFormedPieced as IsFormed}
 use Rattle.json_formatter.proofs.ValueTrees.{formed_plain, key_formed}
 
 -- a lexeme that is no sign
@@ -40,7 +41,7 @@ word_begins s rest w = record { first = s; tail = rest; is = refl; closes = w.cl
 
 pub value_begins : (v : Value) → IsFormed v → (rest : List (List ℕ)) → BeginsPlainly (spelled v ++ rest)
 value_begins (alone s) h rest = word_begins s rest (word_formed s h)
-value_begins (array vs) h rest =
+value_begins (array keeps vs) h rest =
     record { first = _; tail = spelled_items vs ++ rest; is = refl; closes = refl; comma = refl; colon = refl }
-value_begins (object ms) h rest =
+value_begins (object keeps ms) h rest =
     record { first = _; tail = spelled_members ms ++ rest; is = refl; closes = refl; comma = refl; colon = refl }

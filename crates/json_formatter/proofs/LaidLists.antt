@@ -3,8 +3,6 @@ use Rattle.std.proofs.Common.{◌≡◌, refl, sym, ◌∙◌, ap, subst, ℕ, s
 use Rattle.std.proofs.Common.{append_assoc, append-nil, arith}
 use Rattle.std.specs.Prelude.{if◌then◌else◌, pos}
 use Rattle.json.specs.Word.{ends_word}
-use Rattle.json_lexemes.specs.Grammar.{Items, no_items, item, Members, no_members}
-use Rattle.json_lexemes.specs.Grammar as g
 use Rattle.prettyless_model.specs.declared.options.RenderOptions.{RenderOptions}
 use Rattle.prettyless_model.specs.declared.mode.Mode.TheVariants.{Break}
 use Rattle.prettyless_model.specs.Column.{saturating_add}
@@ -18,12 +16,14 @@ use Rattle.prettyless.specs.Tree.{Tree, Nil, Text, Append, Group, HardLine, Brea
 use Rattle.json_formatter.specs.declared.style.Style.{Style}
 use Rattle.json_formatter.specs.ByValue.{fits_width, after_key, item_comma, member_comma, inner, new_line}
 use Rattle.json_formatter.specs.Documents.{margin, gap_in, listed}
-use Rattle.json_formatter.specs.Flat.{flat_line, flat_width}
+use Rattle.json_formatter.specs.Flat.{flat_width}
+use Rattle.json_formatter.specs.Values.{PiecedItems as Items, no_items, item, PiecedMembers as Members, no_members}
+use Rattle.json_formatter.specs.Values as g
 use Rattle.json_formatter.proofs.Chains.{append_is, chain, within, AreSome, listed_is, text_some, key_some}
 use Rattle.json_formatter.proofs.LaidParts.{At, Rested, in_break, Writes, Follows, greatest, then_writes, writes_same, writes_rested}
 use Rattle.json_formatter.proofs.LaidParts.{text_writes, line_writes, nest_writes, end_follows, comma_follows, sum_within, lexeme_writes}
-use Rattle.json_formatter.proofs.LaidParts.{group_writes, IsFlat, StandsAt}
-use Rattle.json_formatter.proofs.ValueTrees.{item_marked, member_marked, key_tree}
+use Rattle.json_formatter.proofs.LaidParts.{group_writes, opening_writes, IsFlat, StandsAt}
+use Rattle.json_formatter.proofs.ValueTrees.{item_marked, member_marked, key_tree, opening}
 
 -- ---- lines
 
@@ -66,12 +66,12 @@ comma_marks {style} {j = j} t some h = record {
 }
 
 -- brackets around lines, which have this inside them where they are flat
-pub brackets_around : {style : Style} {n a : ℕ} {items : Tree} {s : List ℕ} {st : State} (f : Tree) (i z : ℕ) → i ≤ greatest → Rested st
-    → LaysAtIndent style n items (inner style i) s → (rest : List Entry)
-    → Writes (in_break style n (within (BreakOrFlat HardLine f) (Text (a ∷ [])) items (Text (z ∷ [])) style.indent) i rest st)
+pub brackets_around : {style : Style} {n a : ℕ} {items : Tree} {s : List ℕ} {st : State} (f : Tree) (keeps : Bool) (i z : ℕ)
+    → i ≤ greatest → Rested st → LaysAtIndent style n items (inner style i) s → (rest : List Entry)
+    → Writes (in_break style n (within (BreakOrFlat HardLine f) (opening a keeps) items (Text (z ∷ [])) style.indent) i rest st)
     (a ∷ ((new_line (inner style i) ++ s) ++ (new_line i ++ z ∷ []))) Rested
 unfolding lay
-brackets_around {style} {n} {a} {items} {s} {st} f i z l h k = λ rest.
+brackets_around {style} {n} {a} {items} {s} {st} f keeps i z l h k = λ rest.
     let inside = BreakOrFlat HardLine f in
     let o = options_at style.width in
     let brk = breaks o (suc n) in
@@ -86,18 +86,18 @@ brackets_around {style} {n} {a} {items} {s} {st} f i z l h k = λ rest.
     (λ v q. (k v q).written (entry i inside ∷ entry i close ∷ rest) (line_next style.width i f (entry i close ∷ rest)))) in
     let front =
     then_writes
-    (text_writes o 1 st.column.position a [] st (h, refl))
-    (λ u r. then_writes (further u r.0) (λ v q. line_writes style n i i f close rest v q l)) in
+    (opening_writes o brk a keeps i (entry i (Append lines inside) ∷ entry i close ∷ rest) st h)
+    (λ u r. then_writes (further u r) (λ v q. line_writes style n i i f close rest v q l)) in
     writes_same refl (ap (λ (bs : List ℕ). a ∷ bs) (sym (append_assoc (new_line j ++ s) (new_line i) (z ∷ []))))
     (then_writes front (λ u r. writes_rested (text_writes o 1 u.column.position z [] u (r.0, refl))))
 
 -- the same where the gap inside them is that of a list
-edges_around : {style : Style} {n a : ℕ} {items : Tree} {s : List ℕ} {st : State} (blanks : Bool) (i z : ℕ) → i ≤ greatest → Rested st
-    → LaysAtIndent style n items (inner style i) s → (rest : List Entry)
-    → Writes (in_break style n (within (margin blanks) (Text (a ∷ [])) items (Text (z ∷ [])) style.indent) i rest st)
+edges_around : {style : Style} {n a : ℕ} {items : Tree} {s : List ℕ} {st : State} (blanks keeps : Bool) (i z : ℕ) → i ≤ greatest
+    → Rested st → LaysAtIndent style n items (inner style i) s → (rest : List Entry)
+    → Writes (in_break style n (within (margin blanks) (opening a keeps) items (Text (z ∷ [])) style.indent) i rest st)
     (a ∷ ((new_line (inner style i) ++ s) ++ (new_line i ++ z ∷ []))) Rested
-edges_around true i z l h k = brackets_around space i z l h k
-edges_around false i z l h k = brackets_around Nil i z l h k
+edges_around true keeps i z l h k = brackets_around space keeps i z l h k
+edges_around false keeps i z l h k = brackets_around Nil keeps i z l h k
 
 -- ---- items
 
@@ -150,35 +150,41 @@ first_and_later {t = t} {b = b} s one later is = record { bytes = b ++ s; is = i
 
 -- a list is its flat line where that fits, and else these lines between its brackets
 pub list_lays : {style : Style} {n c k a : ℕ} {fills : Bool} {t : Tree} {xs : List Tree} {bs lines : List ℕ} {rest : List Entry}
-    {st : State} (blanks : Bool) (i z : ℕ) (ss : List (List ℕ))
+    {st : State} (blanks keeps : Bool) (i z : ℕ) (line : List ℕ) (columns : ℕ)
     → AreSome (t ∷ xs)
-    → IsFlat (listed blanks fills (Text (a ∷ [])) (t ∷ xs) (Text (z ∷ [])) (pos style.indent)) (flat_line ss) (flat_width ss)
-    → flat_line ss ≡ a ∷ bs
+    → IsFlat (listed blanks fills (opening a keeps) (t ∷ xs) (Text (z ∷ [])) (pos style.indent)) line columns
+    → line ≡ a ∷ bs
     → i ≤ greatest → StandsAt style.width c k rest st → LaysLines style n (inner style i) fills t xs lines
-    → Writes (in_break style n (listed blanks fills (Text (a ∷ [])) (t ∷ xs) (Text (z ∷ [])) (pos style.indent)) i rest st)
-    (if fits_width style c k ss then flat_line ss else a ∷ (lines ++ (new_line i ++ z ∷ []))) Rested
-list_lays {style} {n} {c} {k} {a} {fills} {t} {xs} {bs} {lines} {rest} {st} blanks i z ss some flat begins l place inside =
-    let is = listed_is blanks fills a z style.indent t xs some.0 some.1 in
+    → Writes (in_break style n (listed blanks fills (opening a keeps) (t ∷ xs) (Text (z ∷ [])) (pos style.indent)) i rest st)
+    (if fits_width style c k columns then line else a ∷ (lines ++ (new_line i ++ z ∷ []))) Rested
+list_lays {style} {n} {c} {k} {a} {fills} {t} {xs} {bs} {lines} {rest} {st} blanks keeps i z line columns some flat begins l place inside =
+    let is = listed_is blanks fills a keeps z style.indent t xs some.0 some.1 in
     let items = chain (gap_in fills) t xs in
-    let inner_lines = within (margin blanks) (Text (a ∷ [])) items (Text (z ∷ [])) style.indent in
-    let grouped : IsFlat (Group inner_lines) (flat_line ss) (flat_width ss) =
-    subst (λ (d : Tree). IsFlat d (flat_line ss) (flat_width ss)) is flat in
-    let plain : IsFlat inner_lines (flat_line ss) (flat_width ss) =
+    let inner_lines = within (margin blanks) (opening a keeps) items (Text (z ∷ [])) style.indent in
+    let grouped : IsFlat (Group inner_lines) line columns = subst (λ (d : Tree). IsFlat d line columns) is flat in
+    let plain : IsFlat inner_lines line columns =
     record { inline = grouped.inline; bytes = grouped.bytes; columns = grouped.columns } in
-    let broken = edges_around blanks i z l place.at.0 inside.lays rest in
+    let broken = edges_around blanks keeps i z l place.at.0 inside.lays rest in
     writes_same
     (ap (λ (d : Tree). in_break style n d i rest st) is)
-    (ap (λ (x : List ℕ). if fits_width style c k ss then flat_line ss else a ∷ (x ++ (new_line i ++ z ∷ []))) (sym inside.is))
-    (group_writes style n i ss plain begins place broken)
+    (ap (λ (x : List ℕ). if fits_width style c k columns then line else a ∷ (x ++ (new_line i ++ z ∷ []))) (sym inside.is))
+    (group_writes style n i line columns plain begins place broken)
 
 -- two brackets
-pub empty_lays : (style : Style) (n i : ℕ) (blanks fills : Bool) (a z : ℕ) (rest : List Entry) (st : State) → Rested st
-    → Writes (in_break style n (listed blanks fills (Text (a ∷ [])) [] (Text (z ∷ [])) (pos style.indent)) i rest st) (a ∷ z ∷ []) Rested
+pub empty_lays : (style : Style) (n i : ℕ) (blanks fills : Bool) (a : ℕ) (keeps : Bool) (z : ℕ) (rest : List Entry) (st : State)
+    → Rested st
+    → Writes (in_break style n (listed blanks fills (opening a keeps) [] (Text (z ∷ [])) (pos style.indent)) i rest st) (a ∷ z ∷ []) Rested
 unfolding lay
-empty_lays style n i blanks fills a z rest st h =
+empty_lays style n i blanks fills a true z rest st h =
+    let o = options_at style.width in
     then_writes
-    (text_writes (options_at style.width) 1 st.column.position a [] st (h, refl))
-    (λ u r. writes_rested (text_writes (options_at style.width) 1 u.column.position z [] u (r.0, refl)))
+    (opening_writes o (breaks o (suc n)) a true i (entry i (Text (z ∷ [])) ∷ rest) st h)
+    (λ u r. writes_rested (text_writes o 1 u.column.position z [] u (r, refl)))
+empty_lays style n i blanks fills a false z rest st h =
+    let o = options_at style.width in
+    then_writes
+    (opening_writes o (breaks o (suc n)) a false i (entry i (Text (z ∷ [])) ∷ rest) st h)
+    (λ u r. writes_rested (text_writes o 1 u.column.position z [] u (r, refl)))
 
 -- ---- words
 

@@ -21,8 +21,9 @@ use Rattle.prettyless_laws.specs.Parts.{IsInline, flat_bytes, flat_columns, text
 use Rattle.prettyless_laws.proofs.Inline.{group_is_text, unfit_is_broken}
 use Rattle.prettyless_laws.proofs.LineEnds.{hard_ends_line}
 use Rattle.json_formatter.specs.ByValue.{fits_width, new_line}
-use Rattle.json_formatter.specs.Flat.{flat_line, flat_width}
+use Rattle.json_formatter.specs.Documents.{greatest_width}
 use Rattle.json_formatter.specs.declared.style.Style.{Style}
+use Rattle.json_formatter.proofs.ValueTrees.{opening}
 
 -- ---- columns
 
@@ -121,6 +122,13 @@ lexeme_writes o brk b bs i c rest st h = by (text_is b bs)
     by (inl e) = rw (e.0, ← e.1) (text_writes o (length (b ∷ bs)) c b bs st h)
     by (inr e) = rw e (text_writes o (text_width (b ∷ bs)) c b bs st h)
 
+-- a bracket that opens a list
+pub opening_writes : (o : RenderOptions) (brk : Breaks) (a : ℕ) (b : Bool) (i : ℕ) (rest : List Entry) (st : State) → Rested st
+    → Writes (lay o brk (opening a b) i Break rest st) (a ∷ []) Rested
+unfolding lay
+opening_writes o brk a true i rest st h = writes_rested (text_writes o greatest_width st.column.position a [] st (h, refl))
+opening_writes o brk a false i rest st h = writes_rested (text_writes o 1 st.column.position a [] st (h, refl))
+
 -- ---- what follows
 
 -- what follows takes k columns up to the end of its line
@@ -216,19 +224,20 @@ some_bytes o w (b ∷ bs) c st h = writes_rested (text_writes o w c b bs st h)
 
 -- a group is that line, or its document in Break
 pub group_writes : {c k : ℕ} {d : Tree} {b : ℕ} {bs broken : List ℕ} {rest : List Entry} {st : State} (style : Style) (n i : ℕ)
-    (ss : List (List ℕ)) → IsFlat d (flat_line ss) (flat_width ss) → flat_line ss ≡ b ∷ bs → StandsAt style.width c k rest st
+    (line : List ℕ) (columns : ℕ) → IsFlat d line columns → line ≡ b ∷ bs → StandsAt style.width c k rest st
     → Writes (in_break style n d i rest st) broken Rested
-    → Writes (in_break style n (Group d) i rest st) (if fits_width style c k ss then flat_line ss else broken) Rested
-group_writes {c} {k} {d} {b} {bs} {broken} {rest} {st} style n i ss flat some place written = by (cases_Bool (fits_width style c k ss))
+    → Writes (in_break style n (Group d) i rest st) (if fits_width style c k columns then line else broken) Rested
+group_writes {c} {k} {d} {b} {bs} {broken} {rest} {st} style n i line columns flat some place written =
+    by (cases_Bool (fits_width style c k columns))
   where
-    answers : text_fits (options_at style.width) (flat_columns d) (flat_bytes d) rest st ≡ fits_width style c k ss
+    answers : text_fits (options_at style.width) (flat_columns d) (flat_bytes d) rest st ≡ fits_width style c k columns
     answers =
         ap (λ (s : List ℕ). text_fits (options_at style.width) (flat_columns d) s rest st) (flat.bytes ∙ some)
         ∙ text_fits_as style (flat_columns d) b bs place
         ∙ ap (λ (w : ℕ). nat_le (saturating_add c (w + k)) style.width) flat.columns
 
-    by : (fits_width style c k ss ≡ true) ⊎ (fits_width style c k ss ≡ false) → Writes (in_break style n (Group d) i rest st)
-        (if fits_width style c k ss then flat_line ss else broken) Rested
+    by : (fits_width style c k columns ≡ true) ⊎ (fits_width style c k columns ≡ false) → Writes (in_break style n (Group d) i rest st)
+        (if fits_width style c k columns then line else broken) Rested
     by (inl e) =
         writes_same
         (group_is_text (options_at style.width) (breaks (options_at style.width) (suc n)) d i Break rest st flat.inline (answers ∙ e))

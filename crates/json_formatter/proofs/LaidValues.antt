@@ -2,14 +2,17 @@
 use Rattle.std.proofs.Common.{◌≡◌, refl, ◌∙◌, ap, subst, ℕ, ◌≤◌, Bool, true, false, not, List, ◌∷◌, ◌++◌, length, append_assoc}
 use Rattle.std.specs.Prelude.{if◌then◌else◌}
 use Rattle.json.specs.Word.{ends_word}
-use Rattle.json_lexemes.specs.Grammar.{Value, alone, array, object, Items, no_items, item, Members, no_members}
-use Rattle.json_lexemes.specs.Grammar as g
-use Rattle.json_lexemes.specs.Grammar.{IsFormed, AreFormedItems, AreFormedMembers}
 use Rattle.prettyless_model.specs.Layout.{State, Entry}
 use Rattle.prettyless.specs.Built.{append}
 use Rattle.json_formatter.specs.declared.style.Style.{Style}
 use Rattle.json_formatter.specs.ByValue.{laid_value, items_fill, after_key, flat, filled_lines, item_lines, member_lines, item_comma}
-use Rattle.json_formatter.specs.ByValue.{member_comma, inner, new_line}
+use Rattle.json_formatter.specs.ByValue.{member_comma, inner, new_line, value_width}
+use Rattle.json_formatter.specs.Flat.{flat_line}
+use Rattle.json_formatter.specs.Values.{PiecedValue as Value, alone, array, object, PiecedItems as Items, no_items, item}
+use Rattle.json_formatter.specs.Values.{PiecedMembers as Members, no_members}
+use Rattle.json_formatter.specs.Values as g
+use Rattle.json_formatter.specs.Values.{IsFormedPieced as IsFormed, AreFormedPiecedItems as AreFormedItems}
+use Rattle.json_formatter.specs.Values.{AreFormedPiecedMembers as AreFormedMembers}
 use Rattle.json_formatter.proofs.Chains.{append_some, value_some, items_some, members_some, key_some}
 use Rattle.json_formatter.proofs.FlatTrees.{value_flat}
 use Rattle.json_formatter.proofs.Filled.{filled_items}
@@ -74,23 +77,25 @@ one_member {style} {n} {j} key v ms l e h value = λ u r.
 mutual
   pub value_lays : (style : Style) (n : ℕ) (v : Value) → IsFormed v → ValueLays style n v
   value_lays style n (alone s) h = λ i c k rest st l place. writes_rested (word_lays _ _ s i c rest st h place.at)
-  value_lays style n (array no_items) h = λ i c k rest st l place. empty_lays style n i false true 91 93 rest st place.at.0
-  value_lays style n (array (item v vs)) h = λ i c k rest st l place.
+  value_lays style n (array keeps no_items) h = λ i c k rest st l place. empty_lays style n i false true 91 keeps 93 rest st place.at.0
+  value_lays style n (array keeps (item v vs)) h = λ i c k rest st l place.
       let j = inner style i in
       let m = sum_within i style.indent in
       let fills = items_fill style.fill (item v vs) in
-      list_lays false i 93 (flat style (array (item v vs))) (items_some style (item v vs) h)
-      (value_flat style (array (item v vs)) h) refl l place
+      let whole = array keeps (item v vs) in
+      list_lays false keeps i 93 (flat_line (flat style whole)) (value_width style whole) (items_some style (item v vs) h)
+      (value_flat style whole h) refl l place
       (array_lines style n j fills v vs refl m h
       (first_and_later (item_lines style j vs) (one_item v vs m h.0 (value_lays style n v h.0))
       (items_lay style n vs h.1 j m) (item_bytes style j v vs)))
-  value_lays style n (object no_members) h = λ i c k rest st l place.
-      empty_lays style n i (not style.compact) false 123 125 rest st place.at.0
-  value_lays style n (object (g.member key v ms)) h = λ i c k rest st l place.
+  value_lays style n (object keeps no_members) h = λ i c k rest st l place.
+      empty_lays style n i (not style.compact) false 123 keeps 125 rest st place.at.0
+  value_lays style n (object keeps (g.member key v ms)) h = λ i c k rest st l place.
       let j = inner style i in
       let m = sum_within i style.indent in
-      list_lays (not style.compact) i 125 (flat style (object (g.member key v ms))) (members_some style (g.member key v ms) h)
-      (value_flat style (object (g.member key v ms)) h) refl l place
+      let whole = object keeps (g.member key v ms) in
+      list_lays (not style.compact) keeps i 125 (flat_line (flat style whole)) (value_width style whole)
+      (members_some style (g.member key v ms) h) (value_flat style whole h) refl l place
       (first_and_later (member_lines style j ms) (one_member key v ms m (key_formed key h.0) h.1 (value_lays style n v h.1))
       (members_lay style n ms h.2 j m) (member_bytes style j key v ms))
 

@@ -9,14 +9,15 @@ use Rattle.json.specs.Json.{Json}
 use Rattle.json.specs.Tree.{depth}
 use Rattle.json_validity.specs.Document.{document, IsJsonWithin}
 use Rattle.json_validity.proofs.Documents.{document_depth}
-use Rattle.json_lexemes.specs.Lexemes.{lexemes}
 use Rattle.json_lexemes.specs.SpacedLexemes.{put_together}
 use Rattle.json_formatter.specs.declared.style.Style.{Style}
 use Rattle.json_formatter.specs.BlankLines.{layout_of}
+use Rattle.json_formatter.specs.Documents.{bounded}
 use Rattle.json_formatter.specs.Formats.{depth_of, Formats, IsFormatted, IsTooDeep, IsWriting}
 use Rattle.prettyless_sink.specs.Sink.{AppendsProperBeginning}
 use Rattle.json_formatter.specs.Gaps.{start_state}
 use Rattle.json_formatter.specs.Kept.{kept_of, laid_left}
+use Rattle.json_formatter.specs.Pieces.{text_pieces}
 use Rattle.json_formatter.specs.Spelling.{line_end_bytes, spelled_out, spelling_of, with_spelling}
 use Rattle.json_formatter.specs.declared.spelling.Spelling.{Spelling}
 use Rattle.json_formatter.specs.declared.error.FormatError.{FormatError}
@@ -53,8 +54,15 @@ ended_formatted style text j is shallow =
 pub record AreLaid (style : Style) (text laid end : List ℕ) : Type 0 where
   pub spelling : Spelling
   pub spells : spelling ≡ spelling_of style text
-  pub lays : laid ≡ laid_left style start_state (kept_of style text) spelling (lexemes text)
+  pub lays : laid ≡ laid_left (bounded style) start_state (kept_of style text) spelling (text_pieces style text)
   pub ends : end ≡ line_end_bytes spelling.crlf
+
+-- they are in the bounded style
+pub lays_bounded : {laid : List ℕ} {narrow : Style} (style : Style) (text : List ℕ) (sp : Spelling) → narrow ≡ bounded style
+    → laid ≡ laid_left narrow start_state (kept_of narrow text) sp (text_pieces narrow text)
+    → laid ≡ laid_left (bounded style) start_state (kept_of style text) sp (text_pieces style text)
+lays_bounded style text sp is lays =
+    lays ∙ ap (λ (s : Style). laid_left s start_state (kept_of s text) sp (text_pieces s text)) is
 
 module _ (style : Style) (text laid end : List ℕ) (json : IsJsonWithin (depth_of style) text) (h : AreLaid style text laid end) where
   -- they are the text laid out
@@ -62,8 +70,10 @@ module _ (style : Style) (text laid end : List ℕ) (json : IsJsonWithin (depth_
   laid_formatted =
       let is : laid ++ end ≡ ended style text json.json json.is =
       (λ i. h.lays i ++ h.ends i)
-      ∙ (λ i. laid_left style start_state (kept_of style text) (h.spells i) (lexemes text) ++ line_end_bytes (h.spells i).crlf)
-      ∙ ap (λ (bs : List ℕ). bs ++ line_end_bytes (spelling_of style text).crlf) (laid_is style text) in
+      ∙ (λ i.
+      laid_left (bounded style) start_state (kept_of style text) (h.spells i) (text_pieces style text)
+      ++ line_end_bytes (h.spells i).crlf)
+      ∙ ap (λ (bs : List ℕ). bs ++ line_end_bytes (spelling_of style text).crlf) (laid_is style text json.json json.is) in
       subst (IsFormatted style text) (sym is) (ended_formatted style text json.json json.is json)
 
   -- and the layout by its name

@@ -14,12 +14,14 @@ pub mod GapsMembers
 pub mod GapsPassed
 pub mod GapsSteps
 pub mod GapsWords
+pub mod LaidAgain
 pub mod LaidLists
 pub mod LaidParts
 pub mod LaidValues
 pub mod Layouts
 pub mod Lines
 pub mod Outputs
+pub mod Pieces
 pub mod ReadOn
 pub mod Respelled
 pub mod Readers

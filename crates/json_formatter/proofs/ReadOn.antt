@@ -17,5 +17,5 @@ member_reads v ss a b c key pair made e f g = rw (e, f) g
 pub value_plain : (style : Style) (depth : ℕ) (s : List ℕ) (ss : List (List ℕ)) → opens s ≡ false →
     value style depth (s ∷ ss) ≡ read (text s) ss
 unfolding value
-value_plain style zero s ss e = refl
+value_plain style zero s ss e = rw e refl
 value_plain style (suc depth) s ss e = rw e refl

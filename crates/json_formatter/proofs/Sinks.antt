@@ -1,6 +1,16 @@
 -- A layout on its way into a sink, piece by piece.
-use Rattle.std.proofs.Common.{◌≡◌, sym, ◌∙◌, ap, subst, ℕ, List, [], ◌++◌, append_assoc, append-nil, Option}
+use Rattle.std.proofs.Common.{◌≡◌, sym, ◌∙◌, ap, subst, ℕ, ◌<◌, ◌==◌, false, List, [], ◌∷◌, ◌++◌, append_assoc, append-nil, length}
+use Rattle.std.proofs.Common.{length-append, Option, Some, None, arith}
+use Rattle.std.specs.Prelude.{IfSome, MatchOption}
+use Rattle.std.proofs.lemmas.Bool.{true≢false}
+use Rattle.json.specs.Word.{ends_word, head}
+use Rattle.json_lexemes.specs.View.{text_of, IsNamed}
+use Rattle.json_lexemes.specs.declared.lexeme.Lexeme.{Lexeme}
+use Rattle.json_lexemes.specs.declared.lexeme.Lexeme.TheVariants.{OpenObject, CloseObject, OpenArray, CloseArray, Comma, Colon, String}
+use Rattle.json_lexemes.specs.declared.lexeme.Lexeme.TheVariants.{Word}
 use Rattle.prettyless_sink.specs.Sink.{Accepts, Refuses}
+use Rattle.json_formatter.specs.Kept.{spelled_bytes}
+use Rattle.json_formatter.specs.declared.spelling.Spelled.{Spelled}
 use Rattle.prettyless_sink.proofs.Beginnings.{accepted_both, beginning_of_more, refused_after}
 
 -- the same text
@@ -72,3 +82,34 @@ pub refuses_end : {old mid : Option (List ℕ)} {all done left : List ℕ} {n m 
 refuses_end {old} {mid} {all} {done} {left} {n} {m} new ended k took none failed =
     refuses_same old new (done ++ ended) (all ++ ended) n k (ap (λ (l : List ℕ). l ++ ended) (done_all all done left took.split none))
     (refused_after old mid new done ended n m k took.wrote failed)
+
+-- ---- a lexeme is taken
+
+-- no lexeme is empty
+some_string : (s : List ℕ) → head s ≡ 34 → 0 < length s
+some_string [] e = absurd (true≢false (sym (ap (λ (h : ℕ). h == 34) e)))
+some_string (x ∷ xs) e = omega arith
+
+some_word : (s : List ℕ) → ends_word s ≡ false → 0 < length s
+some_word [] e = absurd (true≢false e)
+some_word (x ∷ xs) e = omega arith
+
+named_some : (l : Lexeme) → IsNamed l → 0 < length (text_of l)
+named_some OpenObject h = omega arith
+named_some CloseObject h = omega arith
+named_some OpenArray h = omega arith
+named_some CloseArray h = omega arith
+named_some Comma h = omega arith
+named_some Colon h = omega arith
+named_some (String s) h = some_string s.now h
+named_some (Word s) h = some_word s.now h.1
+
+-- less is left after it
+pub fewer_left : (r : Option (Spelled × Lexeme)) (old new : List ℕ)
+    → MatchOption r ((old ≡ []) × (new ≡ [])) (λ next. old ≡ spelled_bytes next.0 ++ (text_of next.1 ++ new))
+    → IfSome r (λ next. IsNamed next.1) → IfSome r (λ next. length new < length old)
+fewer_left None old new is named = tt
+fewer_left (Some next) old new is named =
+    let gap = length-append (spelled_bytes next.0) (text_of next.1 ++ new) in
+    let text = length-append (text_of next.1) new in
+    omega (arith, ap length is, gap, text, named_some next.1 named)

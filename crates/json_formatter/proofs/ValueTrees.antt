@@ -1,24 +1,29 @@
--- The document of a value, by recursion on the value: it is what is read of the lexemes that spell it.
+-- The document of a value, by recursion on the value: it is what is read of the pieces that spell it.
 use Rattle.std.proofs.Common.{◌≡◌, refl, sym, ◌∙◌, ap, ℕ, zero, suc, ◌≤◌, max, Bool, true, false, not, ◌&&◌, ◌||◌, ◌==◌, List, []}
-use Rattle.std.proofs.Common.{◌∷◌, ◌++◌, append_assoc, arith}
+use Rattle.std.proofs.Common.{◌∷◌, ◌++◌, ◌+◌, append_assoc, arith}
 use Rattle.std.specs.Prelude.{pos}
 use Rattle.std.proofs.lemmas.Bool.{or_parts}
 use Rattle.json.specs.Ascii as ascii
 use Rattle.json.specs.Word.{is_operator, is_space, head, ends_word}
-use Rattle.json_lexemes.specs.Grammar.{Value, alone, array, object, Items, no_items, item, Members, no_members}
-use Rattle.json_lexemes.specs.Grammar as g
-use Rattle.json_lexemes.specs.Grammar.{spelled, spelled_items, more_items, spelled_members, more_members, depth, items_depth, members_depth}
-use Rattle.json_lexemes.specs.Grammar.{IsFormed, AreFormedItems, AreFormedMembers}
 use Rattle.prettyless.specs.Built.{append}
 use Rattle.prettyless.specs.Counted.{text}
 use Rattle.prettyless.specs.Lines.{space}
-use Rattle.prettyless.specs.Tree.{Tree}
+use Rattle.prettyless.specs.Tree.{Tree, Text, TextWithLen}
 use Rattle.json_formatter.specs.declared.style.Style.{Style}
 use Rattle.json_formatter.specs.declared.style.Fill.{Fill}
 use Rattle.json_formatter.specs.declared.style.Fill.TheVariants as fills
-use Rattle.json_formatter.specs.ByValue.{item_fills, items_fill}
-use Rattle.json_formatter.specs.Flat.{is_mark}
+use Rattle.json_formatter.specs.ByValue.{item_fills, items_fill, kept_if}
+use Rattle.json_formatter.specs.Flat.{is_mark, piece_width}
+use Rattle.json_formatter.specs.Values.{PiecedValue as Value, alone, array, object, PiecedItems as Items, no_items, item}
+use Rattle.json_formatter.specs.Values.{PiecedMembers as Members, no_members}
+use Rattle.json_formatter.specs.Values as g
+use Rattle.json_formatter.specs.Values.{bracket, pieced as spelled, pieced_items as spelled_items, more_pieced_items as more_items}
+use Rattle.json_formatter.specs.Values.{pieced_members as spelled_members, more_pieced_members as more_members}
+use Rattle.json_formatter.specs.Values.{pieced_depth as depth, pieced_items_depth as items_depth, pieced_members_depth as members_depth}
+use Rattle.json_formatter.specs.Values.{IsFormedPieced as IsFormed, AreFormedPiecedItems as AreFormedItems}
+use Rattle.json_formatter.specs.Values.{AreFormedPiecedMembers as AreFormedMembers}
 use Rattle.json_formatter.specs.Documents.{Read, Reader, Member, read, then_read, onto, is_json_sign, may_fill, opens, closes}
+use Rattle.json_formatter.specs.Documents.{greatest_width, lexeme_of, opening_text}
 use Rattle.json_formatter.specs.Documents.{with_value, with_comma}
 use Rattle.json_formatter.specs.Documents.{member, has_blanks, list_member, list_members, trees_of, all_may_fill, listed, value}
 use Rattle.json_formatter.proofs.Readers.{until_more, many_stops}
@@ -40,15 +45,37 @@ member_marked t (g.member k v ms) = append t (text (ascii.comma ∷ []))
 abbrev pub key_tree : List ℕ → Tree
 key_tree k = append (append (text k) (text (ascii.colon ∷ []))) space
 
+-- a bracket: a text, which is wider than a line where it keeps its list broken
+abbrev pub opening : ℕ → Bool → Tree
+opening a true = TextWithLen greatest_width (a ∷ [])
+opening a false = Text (a ∷ [])
+
+pub square_opening : (b : Bool) → opening_text (bracket 91 b) ≡ opening 91 b
+square_opening true = refl
+square_opening false = refl
+
+pub curly_opening : (b : Bool) → opening_text (bracket 123 b) ≡ opening 123 b
+curly_opening true = refl
+curly_opening false = refl
+
+-- its columns
+pub square_width : (b : Bool) → piece_width (bracket 91 b) ≡ 1 + kept_if b
+square_width true = refl
+square_width false = refl
+
+pub curly_width : (b : Bool) → piece_width (bracket 123 b) ≡ 1 + kept_if b
+curly_width true = refl
+curly_width false = refl
+
 -- the document of a value, and those of the items and members of a list
 abbrev mutual
   pub tree : Style → Value → Tree
   tree style (alone s) = text s
-  tree style (array vs) =
-      listed false (items_fill style.fill vs) (text (ascii.open_bracket ∷ [])) (item_trees style vs) (text (ascii.close_bracket ∷ []))
+  tree style (array b vs) =
+      listed false (items_fill style.fill vs) (opening ascii.open_bracket b) (item_trees style vs) (text (ascii.close_bracket ∷ []))
       (pos style.indent)
-  tree style (object ms) =
-      listed (not style.compact) false (text (ascii.open_brace ∷ [])) (member_trees style ms) (text (ascii.close_brace ∷ []))
+  tree style (object b ms) =
+      listed (not style.compact) false (opening ascii.open_brace b) (member_trees style ms) (text (ascii.close_brace ∷ []))
       (pos style.indent)
 
   pub item_trees : Style → Items → List Tree
@@ -70,9 +97,8 @@ pub record IsPlain (s : List ℕ) : Type 0 where
 
 -- one that begins with no sign and no space
 pub formed_plain : (s : List ℕ) → ends_word s ≡ false → IsPlain s
-formed_plain [] e = absurd (cc)
-formed_plain (b ∷ c ∷ bs) e = record { opens = refl; closes = refl; mark = refl; brace = refl }
-formed_plain (b ∷ []) e =
+formed_plain s e =
+    let b = head s in
     let a = (or_parts (is_operator b) (is_space b) e).0 in
     let z = or_parts ((b == 123) || (b == 125) || (b == 91) || (b == 93) || (b == 58)) (b == 44) a in
     let y = or_parts ((b == 123) || (b == 125) || (b == 91) || (b == 93)) (b == 58) z.0 in
@@ -80,6 +106,10 @@ formed_plain (b ∷ []) e =
     let w = or_parts ((b == 123) || (b == 125)) (b == 91) x.0 in
     let v = or_parts (b == 123) (b == 125) w.0 in
     record { opens = rw (v.0, w.1) refl; closes = rw (v.1, x.1) refl; mark = rw (z.1, y.1) refl; brace = v.0 }
+
+-- it is no bracket with a line end
+pub plain_lexeme : (s : List ℕ) → opens s ≡ false → lexeme_of s ≡ s
+plain_lexeme s e = rw e refl
 
 -- a key begins with a quote
 pub key_formed : (k : List ℕ) → head k ≡ 34 → ends_word k ≡ false
@@ -91,15 +121,15 @@ members_fill fill no_members = true
 members_fill fill (g.member k v ms) = may_fill fill k && members_fill fill ms
 
 -- no list may
-pub array_fills : (fill : Fill) → may_fill fill (ascii.open_bracket ∷ []) ≡ false
-array_fills fills.Numbers = refl
-array_fills fills.All = refl
-array_fills fills.Nothing = refl
+pub array_fills : (b : Bool) (fill : Fill) → may_fill fill (bracket ascii.open_bracket b) ≡ false
+array_fills b fills.Numbers = refl
+array_fills b fills.All = refl
+array_fills b fills.Nothing = refl
 
-pub object_fills : (fill : Fill) → may_fill fill (ascii.open_brace ∷ []) ≡ false
-object_fills fills.Numbers = refl
-object_fills fills.All = refl
-object_fills fills.Nothing = refl
+pub object_fills : (b : Bool) (fill : Fill) → may_fill fill (bracket ascii.open_brace b) ≡ false
+object_fills b fills.Numbers = refl
+object_fills b fills.All = refl
+object_fills b fills.Nothing = refl
 
 -- ---- one more member
 
@@ -144,11 +174,11 @@ reads_more {ss} {s} {more} {t = t} {later = later} style d left e f is m h =
 
 -- a list whose members were read
 reads_list : (style : Style) (d : ℕ) (s close : List ℕ) (ss rest : List (List ℕ)) (trees : List Tree) (fills : Bool) → opens s ≡ true
-    → Reads (list_members style (value style d) ss) (close ∷ rest) trees fills
+    → opens close ≡ false → Reads (list_members style (value style d) ss) (close ∷ rest) trees fills
     → value style (suc d) (s ∷ ss) ≡ read
-    (listed (has_blanks style s) (is_json_sign ascii.open_bracket s && fills) (text s) trees (text close) (pos style.indent)) rest
+    (listed (has_blanks style s) (is_json_sign ascii.open_bracket s && fills) (opening_text s) trees (text close) (pos style.indent)) rest
 unfolding value
-reads_list style d s close ss rest trees fills e h = rw (e, h.left, h.documents, h.are) refl
+reads_list style d s close ss rest trees fills e f h = rw (e, h.left, h.documents, h.are, f) refl
 
 -- ---- values
 
@@ -162,8 +192,8 @@ pub record Begins (v : Value) (rest : List (List ℕ)) : Type 0 where
 
 pub begins : (v : Value) → IsFormed v → (rest : List (List ℕ)) → Begins v rest
 begins (alone s) h rest = record { first = s; tail = rest; is = refl; closes = (formed_plain s h).closes; fills = λ fill. refl }
-begins (array vs) h rest = record { first = _; tail = spelled_items vs ++ rest; is = refl; closes = refl; fills = array_fills }
-begins (object ms) h rest = record { first = _; tail = spelled_members ms ++ rest; is = refl; closes = refl; fills = object_fills }
+begins (array b vs) h rest = record { first = _; tail = spelled_items vs ++ rest; is = refl; closes = refl; fills = array_fills b }
+begins (object b ms) h rest = record { first = _; tail = spelled_members ms ++ rest; is = refl; closes = refl; fills = object_fills b }
 
 -- no colon after an item, and a comma where more come
 no_colon_after : (v : Reader Tree) (t : Tree) (vs : Items) (rest : List (List ℕ))
@@ -216,14 +246,19 @@ mutual
   pub reads_value : (style : Style) (d : ℕ) (v : Value) → depth v ≤ d → IsFormed v → (rest : List (List ℕ))
       → value style d (spelled v ++ rest) ≡ read (tree style v) rest
   reads_value style d (alone s) l h rest = value_plain style d s rest (formed_plain s h).opens
-  reads_value style zero (array vs) l h rest = absurd (none_deeper (items_depth vs) l)
-  reads_value style (suc d) (array vs) l h rest =
-      reads_list style d _ _ (spelled_items vs ++ rest) rest (item_trees style vs) (items_fill style.fill vs) refl
+  reads_value style zero (array b vs) l h rest = absurd (none_deeper (items_depth vs) l)
+  reads_value style (suc d) (array b vs) l h rest =
+      reads_list style d (bracket 91 b) (93 ∷ []) (spelled_items vs ++ rest) rest (item_trees style vs) (items_fill style.fill vs) refl refl
       (reads_items style d vs (less_deep (items_depth vs) d l) h rest)
-  reads_value style zero (object ms) l h rest = absurd (none_deeper (members_depth ms) l)
-  reads_value style (suc d) (object ms) l h rest =
-      reads_list style d _ _ (spelled_members ms ++ rest) rest (member_trees style ms) (members_fill style.fill ms) refl
+      ∙ ap (λ (t : Tree). read (listed false (items_fill style.fill vs) t (item_trees style vs) (text (93 ∷ [])) (pos style.indent)) rest)
+      (square_opening b)
+  reads_value style zero (object b ms) l h rest = absurd (none_deeper (members_depth ms) l)
+  reads_value style (suc d) (object b ms) l h rest =
+      reads_list style d (bracket 123 b) (125 ∷ []) (spelled_members ms ++ rest) rest (member_trees style ms)
+      (members_fill style.fill ms) refl refl
       (reads_members style d ms (less_deep (members_depth ms) d l) h rest)
+      ∙ ap (λ (t : Tree). read (listed (not style.compact) false t (member_trees style ms) (text (125 ∷ [])) (pos style.indent)) rest)
+      (curly_opening b)
 
   reads_items : (style : Style) (d : ℕ) (vs : Items) → items_depth vs ≤ d → AreFormedItems vs → (rest : List (List ℕ))
       → Reads (list_members style (value style d) (spelled_items vs ++ rest)) ((ascii.close_bracket ∷ []) ∷ rest) (item_trees style vs)

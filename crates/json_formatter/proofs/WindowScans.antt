@@ -1,18 +1,20 @@
--- What the scanner knows after one lexeme more.
-use Rattle.std.proofs.Common.{◌≡◌, ℕ, suc, ◌+◌, ◌-◌, ◌<◌, Bool, true, false, inl, inr, Some, None, refl, sym, ◌∙◌, ap, subst, arith}
+-- What the scanner knows after one piece more.
+use Rattle.std.proofs.Common.{◌≡◌, ℕ, zero, suc, ◌+◌, ◌-◌, ◌<◌, Bool, true, false, inl, inr, Some, None, refl, sym, ◌∙◌, ap, subst, arith}
 use Rattle.std.proofs.Common.{List, [], ◌∷◌, ◌++◌, length, drop, take, get_or, length-append, length-drop}
 use Rattle.std.proofs.Common.{get_or-set_same, get_or-set_other, drop-cons}
+use Rattle.std.specs.Prelude.{Result, Ok, Err, IfOk}
+use Rattle.std.specs.Result.{is_err}
 use Rattle.std.proofs.Math.ListN.{get_or-append}
 use Rattle.std.proofs.Math.Seq.{get_or-append_seam}
 use Rattle.std.proofs.lemmas.Bool.{cases_eq}
 use Rattle.std.proofs.lemmas.List.{get_or-take, length-set, length-take-le}
-use Rattle.json_formatter.specs.Documents.{opens, closes}
-use Rattle.json_formatter.specs.Flat.{lexeme_columns, wider}
+use Rattle.json_formatter.specs.Documents.{opens, closes, greatest_width}
+use Rattle.json_formatter.specs.Flat.{piece_columns, wider}
 use Rattle.json_formatter.specs.Window.{comma_columns, width_with_comma, rests_of, rest_at, no_list, list_at, closed_at, closed_last}
-use Rattle.json_formatter.specs.Window.{IsUnclosed, IsScanned, IsWindow}
+use Rattle.json_formatter.specs.Window.{IsLast, IsUnclosed, IsScanned, IsWidthUpTo, IsWindow}
 use Rattle.json_formatter.specs.declared.scanner.Opened.{Opened}
 use Rattle.json_formatter.specs.declared.scanner.Scanner.{Scanner}
-use Rattle.json_formatter.proofs.WindowWidths.{wider_none, unclosed_plain, unclosed_opening, unclosed_closing, closed_width}
+use Rattle.json_formatter.proofs.WindowWidths.{last_wide, wider_none, within_wider, unclosed_plain, unclosed_opening, unclosed_closing, closed_width}
 
 rests_same : (s : List ℕ) (ss : List (List ℕ)) → opens s ≡ false → rests_of (s ∷ ss) ≡ rests_of ss
 rests_same s ss o = rw o refl
@@ -20,12 +22,12 @@ rests_same s ss o = rw o refl
 rests_more : (s : List ℕ) (ss : List (List ℕ)) → opens s ≡ true → rests_of (s ∷ ss) ≡ ss ∷ rests_of ss
 rests_more s ss o = rw o refl
 
--- ---- a lexeme that neither opens nor closes a list
+-- ---- a piece that neither opens nor closes a list
 
 pub scanned_plain : {compact : Bool} (rests : List (List (List ℕ))) (lists : List Opened) (unclosed : List ℕ) (t : ℕ)
     (s : List ℕ) (ss : List (List ℕ))
     → IsScanned compact rests lists unclosed t (s ∷ ss) → opens s ≡ false → closes s ≡ false
-    → IsScanned compact rests lists unclosed (t + lexeme_columns compact s ss) ss
+    → IsScanned compact rests lists unclosed (t + piece_columns compact s ss) ss
 scanned_plain {compact} rests lists unclosed t s ss k o c = record {
   unseen = sym (rests_same s ss o) ∙ k.unseen;
   known = k.known;
@@ -34,7 +36,7 @@ scanned_plain {compact} rests lists unclosed t s ss k o c = record {
   inner = λ p h. unclosed_plain compact _ _ t _ s ss (k.inner p h) o c;
 }
 
--- ---- a lexeme that opens one
+-- ---- a piece that opens one
 
 -- the rest of the first list that the scanner has not seen, and those after it
 first_unseen : (rests : List (List (List ℕ))) (n : ℕ) (ss : List (List ℕ)) (later : List (List (List ℕ)))
@@ -63,11 +65,11 @@ list_last lists t = get_or-append_seam lists (record { start = t; width = None }
 list_more : (lists : List Opened) (t : ℕ) → length (with_list lists t) ≡ length lists + 1
 list_more lists t = length-append lists (record { start = t; width = None } ∷ [])
 
--- ---- a lexeme that closes one
+-- ---- a piece that closes one
 
 -- where none is open that the scanner saw opened
 pub scanned_outside : {compact : Bool} (rests : List (List (List ℕ))) (lists : List Opened) (t : ℕ) (s : List ℕ) (ss : List (List ℕ))
-    → IsScanned compact rests lists [] t (s ∷ ss) → opens s ≡ false → IsScanned compact rests lists [] (t + lexeme_columns compact s ss) ss
+    → IsScanned compact rests lists [] t (s ∷ ss) → opens s ≡ false → IsScanned compact rests lists [] (t + piece_columns compact s ss) ss
 scanned_outside {compact} rests lists t s ss k o = record {
   unseen = sym (rests_same s ss o) ∙ k.unseen;
   known = k.known;
@@ -79,10 +81,10 @@ scanned_outside {compact} rests lists t s ss k o = record {
 pub scanned_opening : {compact : Bool} (rests : List (List (List ℕ))) (lists : List Opened) (unclosed : List ℕ) (t : ℕ)
     (s : List ℕ) (ss : List (List ℕ))
     → IsScanned compact rests lists unclosed t (s ∷ ss) → opens s ≡ true
-    → IsScanned compact rests (with_list lists (t + lexeme_columns compact s ss)) (unclosed ++ length lists ∷ [])
-    (t + lexeme_columns compact s ss) ss
+    → IsScanned compact rests (with_list lists (t + piece_columns compact s ss)) (unclosed ++ length lists ∷ [])
+    (t + piece_columns compact s ss) ss
 scanned_opening {compact} rests lists unclosed t s ss k o =
-    let total = t + lexeme_columns compact s ss in
+    let total = t + piece_columns compact s ss in
     let n = length lists in
     let m = length unclosed in
     let more = with_list lists total in
@@ -150,10 +152,10 @@ start_same lists i j total more h =
 closed_inner : {compact : Bool} {rests : List (List (List ℕ))} {lists : List Opened} {unclosed : List ℕ} {t i : ℕ} {s : List ℕ}
     {ss : List (List ℕ)} (m : ℕ) → IsScanned compact rests lists unclosed t (s ∷ ss) → opens s ≡ false → closes s ≡ true
     → length unclosed ≡ m + 1 → get_or unclosed m 0 ≡ i
-    → IsScanned compact rests (closed_at lists i (t + lexeme_columns compact s ss) (comma_columns ss)) (take m unclosed)
-    (t + lexeme_columns compact s ss) ss
+    → IsScanned compact rests (closed_at lists i (t + piece_columns compact s ss) (comma_columns ss)) (take m unclosed)
+    (t + piece_columns compact s ss) ss
 closed_inner {compact} {rests} {lists} {unclosed} {t} {i} {s} {ss} m k o c count at_last =
-    let total = t + lexeme_columns compact s ss in
+    let total = t + piece_columns compact s ss in
     let more = comma_columns ss in
     let new : Opened = record (list_at lists i) { width = Some (total - (list_at lists i).start + more) } in
     let after = closed_at lists i total more in
@@ -211,12 +213,12 @@ closed_inner {compact} {rests} {lists} {unclosed} {t} {i} {s} {ss} m k o c count
 pub scanned_closing : {compact : Bool} (rests : List (List (List ℕ))) (lists : List Opened) (unclosed : List ℕ) (t : ℕ)
     (s : List ℕ) (ss : List (List ℕ))
     → IsScanned compact rests lists unclosed t (s ∷ ss) → opens s ≡ false → closes s ≡ true
-    → IsScanned compact rests (closed_last lists unclosed (t + lexeme_columns compact s ss) (comma_columns ss))
-    (take (length unclosed - 1) unclosed) (t + lexeme_columns compact s ss) ss
+    → IsScanned compact rests (closed_last lists unclosed (t + piece_columns compact s ss) (comma_columns ss))
+    (take (length unclosed - 1) unclosed) (t + piece_columns compact s ss) ss
 scanned_closing {compact} rests lists [] t s ss k o c = scanned_outside rests lists t s ss k o
 scanned_closing {compact} rests lists (u ∷ us) t s ss k o c =
     let e : length us ≡ length (u ∷ us) - 1 = omega arith in
-    let total = t + lexeme_columns compact s ss in
+    let total = t + piece_columns compact s ss in
     subst (λ m. IsScanned compact rests (closed_last lists (u ∷ us) total (comma_columns ss)) (take m (u ∷ us)) total ss) e
     (closed_inner (length us) k o c (omega arith) refl)
 
@@ -232,7 +234,7 @@ scanned_nothing compact t left = record {
   inner = λ p h. let no : ⊥ = omega arith in absurd no;
 }
 
--- the reader has passed a lexeme that opens a list which the scanner has seen
+-- the reader has passed a piece that opens a list which the scanner has seen
 pub window_passed : (left : List (List ℕ)) (scanner : Scanner) (passed : ℕ) (s : List ℕ) → opens s ≡ true
     → passed < length scanner.lists.items → IsWindow (s ∷ left) scanner passed None
     → IsWindow left scanner (passed + 1) (Some passed)
@@ -248,7 +250,7 @@ window_passed left scanner passed s o h w =
     }
 
 -- the scanner has begun anew at the reader
-pub window_anew : (left : List (List ℕ)) (scanner : Scanner) → scanner.lexemes ≡ left → scanner.lists.items ≡ []
+pub window_anew : (left : List (List ℕ)) (scanner : Scanner) → scanner.pieces ≡ left → scanner.lists.items ≡ []
     → scanner.unclosed.items ≡ [] → IsWindow left scanner 0 None
 window_anew left scanner at lists unclosed = record {
   rests = rests_of left;
@@ -257,3 +259,80 @@ window_anew left scanner at lists unclosed = record {
   ahead = refl;
   opened = tt;
 }
+
+-- a list that is still to be seen closed, where the scanner goes no further
+pub last_unknown : {compact : Bool} (rests : List (List (List ℕ))) (lists : List Opened) (unclosed : List ℕ) (t : ℕ)
+    (left : List (List ℕ)) (i most : ℕ)
+    → IsScanned compact rests lists unclosed t left → i < length lists → (list_at lists i).width ≡ None → IsLast compact left
+    → most < greatest_width → IsWidthUpTo compact most (rest_at rests i) None
+last_unknown {compact} rests lists unclosed t left i most k within none last narrow =
+    let at = k.unknown i within none in
+    let open_here = k.inner at.0 at.1 in
+    let wide = last_wide compact _ _ t _ most left open_here last narrow in
+    subst (λ (j : ℕ). IsWidthUpTo compact most (rest_at rests j) None) at.2 wide
+
+-- an element that is there, whatever stands for one that is not
+there : (lists : List Opened) (i : ℕ) (d : Opened) → i < length lists → get_or lists i d ≡ list_at lists i
+there [] i d h = absurd (omega (arith, h))
+there (x ∷ xs) zero d h = refl
+there (x ∷ xs) (suc i) d h = there xs i d (omega (arith, h))
+
+pub unknown_there : {l : Opened} (lists : List Opened) (i : ℕ) → i < length lists → l ≡ get_or lists i l → l ≡ list_at lists i
+unknown_there {l} lists i h e = e ∙ there lists i l h
+
+-- a list that is still to be seen closed, of which the scanner has passed too much
+pub far_unknown : {compact : Bool} (rests : List (List (List ℕ))) (lists : List Opened) (unclosed : List ℕ) (t : ℕ)
+    (left : List (List ℕ)) (i most : ℕ)
+    → IsScanned compact rests lists unclosed t left → i < length lists → (list_at lists i).width ≡ None
+    → most < t - (list_at lists i).start → IsWidthUpTo compact most (rest_at rests i) None
+far_unknown {compact} rests lists unclosed t left i most k within none far =
+    let at = k.unknown i within none in
+    let open_here = subst (λ (j : ℕ). IsUnclosed compact (rest_at rests j) (list_at lists j).start t (length unclosed - at.0) left) at.2
+    (k.inner at.0 at.1) in
+    λ w is.
+    let least = within_wider (t - (list_at lists i).start) w _ (sym open_here.width ∙ is) in
+    omega (arith, far, least)
+
+-- what is so of a success
+pub if_ok : {A E P : Type 0} (r : Result A E) → is_err r ≡ false → IfOk r (λ done. P) → P
+if_ok (Ok x) e p = p
+if_ok (Err x) e p = absurd (cc)
+
+-- the reader has passed a piece that opens a list, where the scanner has begun anew
+pub window_opened : (left : List (List ℕ)) (scanner : Scanner) → scanner.pieces ≡ left
+    → scanner.lists.items ≡ record { start = scanner.total; width = None } ∷ [] → scanner.unclosed.items ≡ 0 ∷ []
+    → IsWindow left scanner 1 (Some 0)
+window_opened left scanner at lists unclosed = record {
+  rests = left ∷ rests_of left;
+  knows = rw (at, lists, unclosed) (one_scanned scanner.compact scanner.total left);
+  seen = omega (arith, ap length lists);
+  ahead = refl;
+  opened = (omega (arith, ap length lists), refl);
+}
+  where
+    one_scanned : (compact : Bool) (t : ℕ) (left : List (List ℕ))
+        → IsScanned compact (left ∷ rests_of left) (record { start = t; width = None } ∷ []) (0 ∷ []) t left
+    one_scanned compact t left =
+        let one : List Opened = record { start = t; width = None } ∷ [] in
+        record {
+          unseen = refl;
+          known = λ i w h e.
+              let first : i ≡ 0 = omega (arith, h) in
+              let none : None ≡ Some w = ap (λ (j : ℕ). (list_at one j).width) (sym first) ∙ e in
+              cc;
+          unknown = λ i h e. (0, omega arith, sym (omega (arith, h)));
+          within = λ p h.
+              let first : p ≡ 0 = omega (arith, h) in
+              subst (λ (q : ℕ). get_or (0 ∷ []) q 0 < 1) (sym first) (omega arith);
+          inner = λ p h.
+              let first : p ≡ 0 = omega (arith, h) in
+              let zero_more : t - t ≡ 0 = omega arith in
+              subst
+              (λ (q : ℕ).
+              IsUnclosed compact (rest_at (left ∷ rests_of left) (get_or (0 ∷ []) q 0)) (list_at one (get_or (0 ∷ []) q 0)).start t (1 - q) left)
+              (sym first)
+              (record {
+                begun = omega arith;
+                width = sym (ap (λ (j : ℕ). wider j (width_with_comma compact 1 left)) zero_more ∙ wider_none (width_with_comma compact 1 left));
+              });
+        }

@@ -1,9 +1,9 @@
 -- The layout of a JSON text: that of its document, with the blank lines that are kept, spelled as the style says.
 use Rattle.std.specs.Prelude.{ℕ, Bool, false, ◌&&◌, ◌==◌, List, [], ◌∷◌, drop, if◌then◌else◌}
 use Rattle.json.specs.Ascii as ascii
-use Rattle.json_lexemes.specs.Lexemes.{lexemes}
 use Rattle.json_lexemes.specs.SpacedLexemes.{Spaced, after_gap, has_blank_line, line_feeds, put_together, spaced_lexemes}
-use Rattle.json_formatter.specs.Documents.{is_json_sign, laid, lexemes_tree}
+use Rattle.json_formatter.specs.Documents.{bounded, is_json_sign, laid, lexemes_tree}
+use Rattle.json_formatter.specs.Pieces.{text_pieces}
 use Rattle.json_formatter.specs.Spelling.{with_spelling}
 use Rattle.json_formatter.specs.declared.style.Style.{Style}
 
@@ -37,4 +37,5 @@ with_kept_lines style text bytes = if style.blank_lines then with_blank_lines te
 
 -- the layout of a text in a style, and a line end
 abbrev pub layout_of : Style → List ℕ → List ℕ
-layout_of style text = with_spelling style text (with_kept_lines style text (laid style (lexemes_tree style (lexemes text))))
+layout_of style text =
+    with_spelling style text (with_kept_lines style text (laid (bounded style) (lexemes_tree (bounded style) (text_pieces style text))))

@@ -1,5 +1,6 @@
--- The document of a JSON text, and its layout: what stands on a line is read off the lexemes alone.
-use Rattle.std.specs.Prelude.{ℕ, zero, suc, ℤ, pos, Bool, true, false, not, ◌&&◌, ◌||◌, ◌==◌, List, [], ◌∷◌, length, drop, map}
+-- The document of a JSON text, and its layout: what stands on a line is read off the pieces of the text.
+use Rattle.std.specs.Prelude.{ℕ, zero, suc, ◌-◌, ◌^◌, ℤ, pos, Bool, true, false, not, ◌&&◌, ◌||◌, ◌==◌, nat_le, min, List, [], ◌∷◌, length}
+use Rattle.std.specs.Prelude.{drop, map}
 use Rattle.std.specs.Prelude.{if◌then◌else◌}
 use Rattle.std.specs.Char.{is_ascii_digit}
 use Rattle.std.specs.List.{fold, list_all}
@@ -11,22 +12,39 @@ use Rattle.prettyless.specs.Counted.{text}
 use Rattle.prettyless.specs.Layout.{bytes_in, layout}
 use Rattle.prettyless.specs.Lines.{line, line_, space}
 use Rattle.prettyless.specs.Options.{options_at}
-use Rattle.prettyless.specs.Tree.{Tree, Nil}
+use Rattle.prettyless.specs.Tree.{Tree, Nil, TextWithLen}
 use Rattle.prettyless.specs.Words.{intersperse}
 use Rattle.json_formatter.specs.declared.style.Fill.{Fill}
 use Rattle.json_formatter.specs.declared.style.Fill.TheVariants as fill
 use Rattle.json_formatter.specs.declared.style.Style.{Style}
 
--- ---- which lexeme it is
+-- ---- widths
 
--- this sign
+-- the greatest number of columns that is counted
+abbrev pub greatest_width : ℕ
+greatest_width = 2 ^ 64 - 1
+
+-- the style whose lines are narrower than that
+abbrev pub bounded : Style → Style
+bounded style = record style { width = min style.width (greatest_width - 1) }
+
+-- ---- which piece it is: a lexeme, or a bracket and the line end after it
+
+-- it begins with this sign, as no lexeme does but the sign
 abbrev pub is_json_sign : ℕ → List ℕ → Bool
-is_json_sign sign (b ∷ []) = b == sign
-is_json_sign sign _ = false
+is_json_sign sign s = head s == sign
 
 -- it opens a list, which is an object or an array
 abbrev pub opens : List ℕ → Bool
 opens s = is_json_sign ascii.open_brace s || is_json_sign ascii.open_bracket s
+
+-- it is a bracket with a line end, which keeps its list broken
+abbrev pub keeps_broken : List ℕ → Bool
+keeps_broken s = opens s && nat_le 2 (length s)
+
+-- the lexeme without that line end
+abbrev pub lexeme_of : List ℕ → List ℕ
+lexeme_of s = if opens s then head s ∷ [] else s
 
 -- it closes one
 abbrev pub closes : List ℕ → Bool
@@ -94,7 +112,7 @@ pub record Member : Type 0 where
 -- a lexeme alone, or nothing where none is left
 abbrev pub lexeme_alone : Reader Tree
 lexeme_alone [] = read Nil []
-lexeme_alone (s ∷ ss) = read (text s) ss
+lexeme_alone (s ∷ ss) = read (text (lexeme_of s)) ss
 
 -- a key, and if a colon is next: it, a space, and the value
 abbrev pub with_value : Reader Tree → Tree → Reader Tree
@@ -148,11 +166,15 @@ listed blanks fills before (x ∷ xs) after k =
 abbrev pub has_blanks : Style → List ℕ → Bool
 has_blanks style opening = is_json_sign ascii.open_brace opening && not style.compact
 
+-- a bracket; with a line end it takes as many columns as are counted, so that neither its list nor one around it fits
+abbrev pub opening_text : List ℕ → Tree
+opening_text s = if keeps_broken s then TextWithLen greatest_width (lexeme_of s) else text (lexeme_of s)
+
 -- a list between its brackets; an array fills its lines where all of its items may
 abbrev pub list_document : Style → List ℕ → List Member → Tree → Tree
 list_document style opening ms close =
-    listed (has_blanks style opening) (is_json_sign ascii.open_bracket opening && all_may_fill ms) (text opening) (trees_of ms) close
-    (pos style.indent)
+    listed (has_blanks style opening) (is_json_sign ascii.open_bracket opening && all_may_fill ms) (opening_text opening) (trees_of ms)
+    close (pos style.indent)
 
 -- a list, whose values are read by `value`, or a lexeme alone
 abbrev pub list_or_lexeme : Style → Reader Tree → Reader Tree
@@ -169,7 +191,7 @@ value style (suc depth) = list_or_lexeme style (value style depth)
 
 -- ---- the document of a text
 
--- the values of the lexemes, one after the other; those of a JSON text are one value
+-- the values of the pieces, one after the other; those of a JSON text are one value
 abbrev pub lexemes_tree : Style → List (List ℕ) → Tree
 lexemes_tree style ss = fold append Nil (until (λ _. false) (value style max_depth) ss).found
 

@@ -3,7 +3,7 @@ use Rattle.std.specs.Prelude.{ℕ, ◌+◌, ◌-◌, Bool, true, false, not, ◌
 use Rattle.std.specs.Prelude.{if◌then◌else◌}
 use Rattle.json.specs.Ascii as ascii
 use Rattle.prettyless_model.specs.Metrics.{text_width}
-use Rattle.json_formatter.specs.Documents.{is_json_sign, opens, closes, stops}
+use Rattle.json_formatter.specs.Documents.{keeps_broken, greatest_width, is_json_sign, opens, closes, stops}
 
 -- the bytes of texts
 abbrev pub flat_line : List (List ℕ) → List ℕ
@@ -20,9 +20,9 @@ abbrev pub blank_if : Bool → List (List ℕ)
 blank_if true = (32 ∷ []) ∷ []
 blank_if false = []
 
--- ---- lexeme by lexeme
+-- ---- piece by piece
 
--- a lexeme after which a space stands on a flat line: a comma or a colon
+-- a piece after which a space stands on a flat line: a comma or a colon
 abbrev pub is_mark : List ℕ → Bool
 is_mark s = is_json_sign ascii.comma s || is_json_sign ascii.colon s
 
@@ -30,13 +30,17 @@ is_mark s = is_json_sign ascii.comma s || is_json_sign ascii.colon s
 abbrev pub opens_blanks : Bool → List ℕ → List (List ℕ) → Bool
 opens_blanks compact s ss = is_json_sign ascii.open_brace s && (not (stops closes ss) && not compact)
 
--- the columns of the spaces that are counted with a lexeme: that after a comma or a colon, and both inside braces with the first brace
+-- the columns of the spaces that are counted with a piece: that after a comma or a colon, and both inside braces with the first brace
 abbrev pub blank_columns : Bool → List ℕ → List (List ℕ) → ℕ
 blank_columns compact s ss = if is_mark s then 1 else (if opens_blanks compact s ss then 2 else 0)
 
--- the columns that a lexeme takes on a flat line with these spaces, before others
-abbrev pub lexeme_columns : Bool → List ℕ → List (List ℕ) → ℕ
-lexeme_columns compact s ss = text_width s + blank_columns compact s ss
+-- the columns of a piece without them; a bracket with a line end takes more than a line has
+abbrev pub piece_width : List ℕ → ℕ
+piece_width s = if keeps_broken s then greatest_width else text_width s
+
+-- the columns that a piece takes on a flat line with these spaces, before others
+abbrev pub piece_columns : Bool → List ℕ → List (List ℕ) → ℕ
+piece_columns compact s ss = piece_width s + blank_columns compact s ss
 
 -- so many columns more, if they are known
 abbrev pub wider : ℕ → Option ℕ → Option ℕ
@@ -49,9 +53,9 @@ abbrev pub width_to_close : Bool → ℕ → List (List ℕ) → Option ℕ
 width_to_close compact n [] = None
 width_to_close compact n (s ∷ ss) =
     if opens s
-    then wider (lexeme_columns compact s ss) (width_to_close compact (n + 1) ss)
+    then wider (piece_columns compact s ss) (width_to_close compact (n + 1) ss)
     else (if not (closes s)
-    then wider (lexeme_columns compact s ss) (width_to_close compact n ss)
+    then wider (piece_columns compact s ss) (width_to_close compact n ss)
     else (if nat_le n 1
-    then Some (lexeme_columns compact s ss)
-    else wider (lexeme_columns compact s ss) (width_to_close compact (n - 1) ss)))
+    then Some (piece_columns compact s ss)
+    else wider (piece_columns compact s ss) (width_to_close compact (n - 1) ss)))

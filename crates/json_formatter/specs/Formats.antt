@@ -46,14 +46,14 @@ IsWriting TooDeep = ⊥
 IsWriting (Memory e) = ⊥
 IsWriting (Write e) = Unit {0}
 
--- the text is no JSON, or too deep, or memory was refused
+-- the text is not JSON, or too deep, or memory was refused
 abbrev pub IsRefused : Style → List ℕ → FormatError → Type 0
 IsRefused style text NotJson = document text ≡ None
 IsRefused style text TooDeep = IsTooDeep style text
 IsRefused style text (Memory e) = Unit {0}
 IsRefused style text (Write e) = ⊥
 
--- What a writer holds goes from old to new. Where the text is no JSON, or too deep, or memory was refused, nothing was written.
+-- What a writer holds goes from old to new. Where the text is not JSON, or too deep, or memory was refused, nothing was written.
 abbrev pub Formats : {A : Type 0} → Style → List ℕ → Option (List ℕ) → Option (List ℕ) → Result A FormatError → Type 0
 Formats style text old new (Ok done) = (bytes : List ℕ) × IsFormatted style text bytes × Appends old new bytes
 Formats style text old new (Err NotJson) = Keeps old new × (document text ≡ None)

@@ -1,4 +1,4 @@
--- How a JSON text is laid out lexeme by lexeme: what stands before each, and what is known after it.
+-- How a JSON text is laid out piece by piece: what stands before each, and what is known after it.
 use Rattle.std.specs.Prelude.{ℕ, ◌+◌, ◌-◌, ◌*◌, ◌^◌, Bool, false, not, ◌&&◌, ◌||◌, nat_le, min, List, [], ◌∷◌, Option, Some, None}
 use Rattle.std.specs.Prelude.{if◌then◌else◌}
 use Rattle.json.specs.Ascii as ascii
@@ -6,8 +6,8 @@ use Rattle.json_lexemes.specs.SpacedLexemes.{Spaced, after_gap, put_together}
 use Rattle.prettyless_model.specs.Column.{saturating_add}
 use Rattle.prettyless_model.specs.Metrics.{text_width}
 use Rattle.json_formatter.specs.ByValue.{new_line}
-use Rattle.json_formatter.specs.Documents.{closes, is_json_sign, may_fill, next_is, opens, stops}
-use Rattle.json_formatter.specs.Flat.{is_mark, lexeme_columns, width_to_close}
+use Rattle.json_formatter.specs.Documents.{closes, is_json_sign, lexeme_of, may_fill, next_is, opens, stops}
+use Rattle.json_formatter.specs.Flat.{is_mark, piece_columns, width_to_close}
 use Rattle.json_formatter.specs.declared.gaps.Gap.{Gap}
 use Rattle.json_formatter.specs.declared.gaps.Gap.TheVariants as gap
 use Rattle.json_formatter.specs.declared.gaps.Joint.{Joint}
@@ -53,7 +53,7 @@ list_end c k (Some w) comma = saturating_add c (k + w + comma_column comma)
 -- the list that is opened with s at column c stays within the width
 abbrev pub list_fits : Style → ℕ → List ℕ → List (List ℕ) → Bool
 list_fits style c s ss =
-    nat_le (list_end c (lexeme_columns style.compact s ss) (width_to_close style.compact 1 ss) (comma_after 1 ss)) style.width
+    nat_le (list_end c (piece_columns style.compact s ss) (width_to_close style.compact 1 ss) (comma_after 1 ss)) style.width
 
 -- ---- on one line
 
@@ -61,21 +61,21 @@ list_fits style c s ss =
 abbrev pub space_if : Bool → Gap
 space_if b = if b then gap.Space else gap.Nothing
 
--- the gap before a lexeme: unless the style is compact, blanks stand inside the braces of an object that has members
+-- the gap before a piece: unless the style is compact, blanks stand inside the braces of an object that has members
 abbrev pub flat_gap : Style → Joint → List ℕ → Gap
 flat_gap style joint.Space s = gap.Space
 flat_gap style joint.Brace s = space_if (not (closes s) && not style.compact)
 flat_gap style _ s = space_if (is_json_sign ascii.close_brace s && not style.compact)
 
--- what joins the next lexeme to one of a line
+-- what joins the next piece to one of a line
 abbrev pub flat_joint : List ℕ → Joint
 flat_joint s = if is_mark s then joint.Space else (if is_json_sign ascii.open_brace s then joint.Brace else joint.Nothing)
 
--- how many lists are open after a lexeme
+-- how many lists are open after a piece
 abbrev pub open_after : ℕ → List ℕ → ℕ
 open_after n s = if opens s then saturating_add n 1 else (if closes s then n - 1 else n)
 
--- the state after a lexeme of a list on one line
+-- the state after a piece of a list on one line
 abbrev pub flat_after : State → List ℕ → State
 flat_after st s = record st { flat = open_after st.flat s; joint = flat_joint s }
 
@@ -92,7 +92,7 @@ close_after st = record st { depth = st.depth - 1; fills = false; joint = joint.
 -- a number fits the line after a space, with its comma
 abbrev pub number_fits : Style → ℕ → List ℕ → Bool → Bool
 number_fits style c s comma =
-    nat_le (saturating_add (saturating_add (saturating_add c 1) (text_width s)) (comma_column comma)) style.width
+    nat_le (saturating_add (saturating_add (saturating_add c 1) (text_width (lexeme_of s))) (comma_column comma)) style.width
 
 -- the gap before a value or a key
 abbrev pub value_gap : Style → State → Joint → List ℕ → Bool → Gap
@@ -124,17 +124,17 @@ open_at style st c s ss =
 
 -- the column after a word or a key at this column; it is not counted where a comma comes next, and then a new line
 abbrev pub word_end : Bool → ℕ → List ℕ → List (List ℕ) → ℕ
-word_end fills c s ss = if not fills && next_is (is_json_sign ascii.comma) ss then c else saturating_add c (text_width s)
+word_end fills c s ss = if not fills && next_is (is_json_sign ascii.comma) ss then c else saturating_add c (text_width (lexeme_of s))
 
--- after the first lexeme of a value, or a key, at this column
+-- after the first piece of a value, or a key, at this column
 abbrev pub value_at : Style → State → ℕ → List ℕ → List (List ℕ) → State
 value_at style st c s ss =
     if opens s then open_at style st c s ss
     else record st { column = word_end st.fills c s ss; joint = joint.Nothing }
 
--- ---- a lexeme
+-- ---- a piece
 
--- the gap before a lexeme, after which others come
+-- the gap before a piece, after which others come
 abbrev pub gap_before : Style → State → List ℕ → List (List ℕ) → Gap
 gap_before style st s ss =
     if nat_le 1 st.flat then flat_gap style st.joint s
@@ -151,15 +151,16 @@ state_after style st s ss =
     else (if closes s then close_after st
     else value_at style st (gap_end st.column (value_gap style st st.joint s (next_is (is_json_sign ascii.comma) ss))) s ss)))
 
--- lexemes, each after its gap
+-- the lexemes of pieces, each after its gap
 abbrev pub spaced_from : Style → State → List (List ℕ) → List Spaced
 spaced_from style st [] = []
-spaced_from style st (s ∷ ss) = after_gap (gap_bytes (gap_before style st s ss)) s ∷ spaced_from style (state_after style st s ss) ss
+spaced_from style st (s ∷ ss) =
+    after_gap (gap_bytes (gap_before style st s ss)) (lexeme_of s) ∷ spaced_from style (state_after style st s ss) ss
 
 -- their bytes
 abbrev pub laid_from : Style → State → List (List ℕ) → List ℕ
 laid_from style st ss = put_together (spaced_from style st ss)
 
--- before the first lexeme
+-- before the first piece
 abbrev pub start_state : State
 start_state = record { depth = 0; flat = 0; column = 0; fills = false; joint = joint.Nothing }

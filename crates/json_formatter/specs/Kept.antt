@@ -4,6 +4,7 @@ use Rattle.json_lexemes.specs.SpacedLexemes.{Spaced, put_together, spaced_as}
 use Rattle.prettyless_model.specs.Spaces.{spaces}
 use Rattle.json_formatter.specs.BlankLines.{kept_from}
 use Rattle.json_formatter.specs.Gaps.{gap_bytes, spaced_from}
+use Rattle.json_formatter.specs.Pieces.{lexemes_of_pieces}
 use Rattle.json_formatter.specs.Spelling.{respelled_all, tabs}
 use Rattle.json_formatter.specs.declared.gaps.State.{State}
 use Rattle.json_formatter.specs.declared.kept.Kept.{Kept}
@@ -17,10 +18,11 @@ abbrev pub spelled_bytes : Spelled → List ℕ
 spelled_bytes (spelled.Plain gap) = gap_bytes gap
 spelled_bytes (spelled.Line ends t n) = ends.now ++ (tabs t ++ spaces n)
 
--- these lexemes, after the gaps of the layout, and beside those of the text that is left where blank lines are kept
+-- the lexemes of these pieces, after the gaps of the layout, and beside those of the text that is left where blank lines are kept
 abbrev pub kept_left : Style → State → Option Kept → List (List ℕ) → List Spaced
 kept_left style st None ss = spaced_from style st ss
-kept_left style st (Some kept) ss = kept_from kept.after_comma (spaced_as kept.blank_lines ss) (spaced_from style st ss)
+kept_left style st (Some kept) ss =
+    kept_from kept.after_comma (spaced_as kept.blank_lines (lexemes_of_pieces ss)) (spaced_from style st ss)
 
 -- their bytes
 abbrev pub laid_left : Style → State → Option Kept → Spelling → List (List ℕ) → List ℕ

@@ -9,4 +9,7 @@ pub mod Window
 pub mod Gaps
 pub mod Kept
 pub mod Outputs
+pub mod Pieces
+pub mod PieceTexts
 pub mod Spelling
+pub mod Values

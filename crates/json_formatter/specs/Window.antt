@@ -1,18 +1,18 @@
 -- What the scanner ahead of a reader knows of the lists that it has seen opened.
 use Rattle.std.specs.Prelude.{◌≡◌, ℕ, ◌+◌, ◌-◌, ◌<◌, ◌≤◌, Bool, not, nat_le, if◌then◌else◌, Option, Some, None, MatchOption, IfSome}
-use Rattle.std.specs.Prelude.{List, [], ◌∷◌, length, drop, slice_index_or, slice_set}
+use Rattle.std.specs.Prelude.{List, [], ◌∷◌, length, drop, slice_index_or, slice_set, ⊤}
 use Rattle.json.specs.Ascii.{comma}
-use Rattle.json_formatter.specs.Documents.{closes, is_json_sign, next_is, opens}
-use Rattle.json_formatter.specs.Flat.{lexeme_columns, wider}
+use Rattle.json_formatter.specs.Documents.{closes, greatest_width, is_json_sign, next_is, opens}
+use Rattle.json_formatter.specs.Flat.{piece_columns, wider}
 use Rattle.json_formatter.specs.declared.scanner.Opened.{Opened}
 use Rattle.json_formatter.specs.declared.scanner.Scanner.{Scanner}
 
--- for each lexeme that opens a list, in their order, the lexemes after it
+-- for each piece that opens a list, in their order, the pieces after it
 abbrev pub rests_of : List (List ℕ) → List (List (List ℕ))
 rests_of [] = []
 rests_of (s ∷ ss) = if opens s then ss ∷ rests_of ss else rests_of ss
 
--- the lexemes after the one that opens the list of this index
+-- the pieces after the one that opens the list of this index
 abbrev pub rest_at : List (List (List ℕ)) → ℕ → List (List ℕ)
 rest_at rests i = slice_index_or rests i []
 
@@ -26,12 +26,12 @@ abbrev pub width_with_comma : Bool → ℕ → List (List ℕ) → Option ℕ
 width_with_comma compact n [] = None
 width_with_comma compact n (s ∷ ss) =
     if opens s
-    then wider (lexeme_columns compact s ss) (width_with_comma compact (n + 1) ss)
+    then wider (piece_columns compact s ss) (width_with_comma compact (n + 1) ss)
     else (if not (closes s)
-    then wider (lexeme_columns compact s ss) (width_with_comma compact n ss)
+    then wider (piece_columns compact s ss) (width_with_comma compact n ss)
     else (if nat_le n 1
-    then Some (lexeme_columns compact s ss + comma_columns ss)
-    else wider (lexeme_columns compact s ss) (width_with_comma compact (n - 1) ss)))
+    then Some (piece_columns compact s ss + comma_columns ss)
+    else wider (piece_columns compact s ss) (width_with_comma compact (n - 1) ss)))
 
 -- a list of which nothing is known
 abbrev pub no_list : Opened
@@ -40,7 +40,7 @@ no_list = record { start = 0; width = None }
 abbrev pub list_at : List Opened → ℕ → Opened
 list_at lists i = slice_index_or lists i no_list
 
--- From a total of columns on come these lexemes; a list is open there, and n - 1 lists in it.
+-- From a total of columns on come these pieces; a list is open there, and n - 1 lists in it.
 pub record IsUnclosed (compact : Bool) (rest : List (List ℕ)) (start total n : ℕ) (left : List (List ℕ)) : Type 0 where
   pub begun : start ≤ total
   pub width : width_with_comma compact 1 rest ≡ wider (total - start) (width_with_comma compact n left)
@@ -61,6 +61,11 @@ pub record IsScanned
       → IsUnclosed compact (rest_at rests (slice_index_or unclosed p 0)) (list_at lists (slice_index_or unclosed p 0)).start total
       (length unclosed - p) left
 
+-- none of these is part of a list that fits: none is left, or the first is as wide as is counted
+abbrev pub IsLast : Bool → List (List ℕ) → Type 0
+IsLast compact [] = ⊤
+IsLast compact (s ∷ ss) = greatest_width ≤ piece_columns compact s ss
+
 -- where this list is closed at this total, with so many columns after it, its width is known
 abbrev pub closed_at : List Opened → ℕ → ℕ → ℕ → List Opened
 closed_at lists i total after =
@@ -79,7 +84,7 @@ AreWithin lists unclosed total =
 
 -- the same of a scanner
 abbrev pub Knows : Scanner → List (List (List ℕ)) → Type 0
-Knows s rests = IsScanned s.compact rests s.lists.items s.unclosed.items s.total s.lexemes
+Knows s rests = IsScanned s.compact rests s.lists.items s.unclosed.items s.total s.pieces
 
 -- what it knows is right
 abbrev pub IsRight : Scanner → Type 0
@@ -92,7 +97,7 @@ IsWidthUpTo compact most rest width =
     ((w : ℕ) → width_with_comma compact 1 rest ≡ Some w → most < w)
     (λ w. (width_with_comma compact 1 rest ≡ Some w) × (w ≤ most))
 
--- The reader has these lexemes left, and has opened so many of the scanner's lists; the one of index `here` it has just opened.
+-- The reader has these pieces left, and has opened so many of the scanner's lists; the one of index `here` it has just opened.
 pub record IsWindow (left : List (List ℕ)) (scanner : Scanner) (passed : ℕ) (here : Option ℕ) : Type 0 where
   pub rests : List (List (List ℕ))
   pub knows : Knows scanner rests

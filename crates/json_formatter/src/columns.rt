@@ -1,10 +1,11 @@
-ghost use Rattle.std.specs.Prelude.{◌≡◌};
+ghost use Rattle.std.specs.Prelude.{◌≡◌, ◌≤◌, MatchOption};
 ghost use Rattle.prettyless_model.specs.Metrics.{text_width};
-ghost use Rattle.json_lexemes.specs.View.{text_of, IsNamed};
-ghost use Rattle.json_formatter.specs.Flat.{lexeme_columns};
+ghost use Rattle.json_formatter.specs.Documents.{greatest_width, lexeme_of};
+ghost use Rattle.json_formatter.specs.Flat.{piece_columns};
+ghost use Rattle.json_formatter.specs.PieceTexts.{piece_text, IsPiece};
 
 use crate::ahead::Ahead;
-use json_lexemes::Lexeme;
+use crate::piece::Piece;
 use prettyless_text::measure::is_ascii;
 use unicode_width::UnicodeWidthStr;
 
@@ -20,30 +21,33 @@ fn columns(text: &str) -> usize
     }
 }
 
-/// The columns that a lexeme takes.
+/// The columns of a piece without a line end.
 #[inline(always)]
-pub(crate) fn text_columns(lexeme: Lexeme<'_>) -> usize
-    ensures { result ≡ text_width (text_of lexeme.entry) }
+pub(crate) fn text_columns(piece: Piece<'_>) -> usize
+    requires { IsPiece piece }
+    ensures { result ≡ text_width (lexeme_of (piece_text piece.entry)) }
 {
-    match lexeme {
-        Lexeme::OpenObject | Lexeme::CloseObject => 1,
-        Lexeme::OpenArray | Lexeme::CloseArray => 1,
-        Lexeme::Comma | Lexeme::Colon => 1,
-        Lexeme::String(text) | Lexeme::Word(text) => columns(text),
+    match piece {
+        Piece::String(text) | Piece::Word(text) => columns(text),
+        _ => 1,
     }
 }
 
-/// The columns that a lexeme takes on a flat line, before these, with the space after a comma or a colon. With the brace that opens
+/// The columns that a piece takes on a flat line, before these, with the space after a comma or a colon. With the brace that opens
 /// an object both blanks inside its braces are counted, if it has any.
+///
+/// `None` where it is a bracket whose list is kept broken: that is wider than any line.
 #[inline]
-pub(crate) fn lexeme_columns(compact: bool, lexeme: Lexeme<'_>, later: &Ahead<'_>) -> usize
-    requires { IsNamed lexeme }
-    ensures { result ≡ lexeme_columns compact (text_of lexeme.entry) later.now }
+pub(crate) fn piece_columns(compact: bool, piece: Piece<'_>, later: &Ahead<'_>) -> Option<usize>
+    requires { IsPiece piece }
+    ensures { MatchOption result (greatest_width ≤ piece_columns compact (piece_text piece.entry) later.now)
+        (λ columns. columns ≡ piece_columns compact (piece_text piece.entry) later.now) }
 {
-    match lexeme {
-        Lexeme::OpenObject if !compact && !later.is_at_end() => 3,
-        Lexeme::OpenObject | Lexeme::CloseObject | Lexeme::OpenArray | Lexeme::CloseArray => 1,
-        Lexeme::Comma | Lexeme::Colon => 2,
-        Lexeme::String(text) | Lexeme::Word(text) => columns(text),
+    match piece {
+        Piece::OpenObject(true) | Piece::OpenArray(true) => None,
+        Piece::OpenObject(false) if !compact && !later.is_at_end() => Some(3),
+        Piece::Comma | Piece::Colon => Some(2),
+        Piece::String(text) | Piece::Word(text) => Some(columns(text)),
+        _ => Some(1),
     }
 }

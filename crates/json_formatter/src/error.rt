@@ -7,7 +7,7 @@ use std::io;
 /// Why a text was not formatted.
 #[derive(Debug, Drop)]
 pub enum FormatError {
-    /// The text is no JSON, or its lists are more than 100,000 deep in one another.
+    /// The text is not JSON, or its lists are more than 100,000 deep in one another.
     NotJson,
     /// The text is JSON, and its lists are deeper in one another than the style allows.
     TooDeep,

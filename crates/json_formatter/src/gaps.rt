@@ -1,22 +1,24 @@
 //! A layout of a JSON text is its lexemes in their order, with a gap before each.
 ghost use Rattle.std.specs.Prelude.{◌≡◌, ◌<◌, ◌++◌, [], length, MatchOption, IfSome};
-ghost use Rattle.json_lexemes.specs.Lexemes.{lexemes};
 ghost use Rattle.json_lexemes.specs.View.{text_of, IsNamed};
 ghost use Rattle.json.specs.Ascii.{comma};
-ghost use Rattle.json_formatter.specs.Documents.{closes, is_json_sign, next_is, stops};
+ghost use Rattle.json_formatter.specs.Documents.{closes, greatest_width, is_json_sign, next_is, stops};
 ghost use Rattle.json_formatter.specs.Gaps.{all_fill, close_after, flat_after, flat_gap, flat_joint, gap_before, gap_bytes, gap_end};
 ghost use Rattle.json_formatter.specs.Gaps.{indent_at, list_fits, mark_after, number_fits, open_at, start_state, state_after};
 ghost use Rattle.json_formatter.specs.Gaps.{value_at};
 ghost use Rattle.json_formatter.specs.Gaps.{value_gap, word_end};
 ghost use Rattle.json_formatter.specs.Kept.{kept_of, laid_left, spelled_bytes};
+ghost use Rattle.json_formatter.specs.Pieces.{text_pieces};
+ghost use Rattle.json_formatter.specs.PieceTexts.{piece_text, IsPiece};
 
 use crate::ahead::Ahead;
-use crate::columns::{lexeme_columns, text_columns};
+use crate::columns::{piece_columns, text_columns};
 use crate::kept::Kept;
 use crate::kind::{closes, is_comma, may_fill, opens};
+use crate::piece::Piece;
 use crate::spelling::{Spelled, Spelling};
 use crate::style::{Fill, Style};
-use crate::window::Lexemes;
+use crate::window::Pieces;
 use json_lexemes::Lexeme;
 use std::alloc::Global;
 use std::marker::Model;
@@ -47,7 +49,7 @@ enum Joint {
     Fill,
 }
 
-/// Where a layout stands between two lexemes.
+/// Where a layout stands between two pieces.
 #[derive(Clone, Copy)]
 struct State {
     /// How many lists are open whose members stand in lines of their own.
@@ -62,7 +64,7 @@ struct State {
     joint: Joint,
 }
 
-// Before the first lexeme.
+// Before the first piece.
 const START: State = State {
     depth: 0,
     flat: 0,
@@ -80,14 +82,14 @@ fn indent_at(style: Style, depth: usize) -> usize
 }
 
 // Whether nothing but items that may fill lines, with commas, stands in the list that is open here.
-fn all_fill(fill: Fill, mut lexemes: Ahead<'_>) -> bool
-    ensures { result ≡ all_fill fill lexemes.entry }
+fn all_fill(fill: Fill, mut pieces: Ahead<'_>) -> bool
+    ensures { result ≡ all_fill fill pieces.entry }
 {
-    while let Some(lexeme) = lexemes.next() {
-        if closes(lexeme) {
+    while let Some(piece) = pieces.next() {
+        if closes(piece) {
             return true;
         }
-        if !may_fill(fill, lexeme) && !is_comma(lexeme) {
+        if !may_fill(fill, piece) && !is_comma(piece) {
             return false;
         }
     }
@@ -96,70 +98,58 @@ fn all_fill(fill: Fill, mut lexemes: Ahead<'_>) -> bool
 
 // Whether the list that is opened at a column stays within the width, with a comma that comes after it.
 #[inline(always)]
-fn list_fits(lexemes: &mut Lexemes<'_>, style: Style, column: usize, opening: Lexeme<'_>) -> bool
-    requires { IsNamed opening }
-    ensures same { lexemes.new ≡ lexemes.old }
-    ensures fits { result ≡ list_fits style column (text_of opening.entry) lexemes.old }
+fn list_fits(pieces: &mut Pieces<'_>, style: Style, column: usize, opening: Piece<'_>) -> bool
+    requires bounded { style.width < greatest_width }
+    requires piece { IsPiece opening }
+    ensures same { pieces.new ≡ pieces.old }
+    ensures fits { result ≡ list_fits style column (piece_text opening.entry) pieces.old }
 {
-    if style.width == usize::MAX {
-        return true;
-    }
-    let bracket = lexeme_columns(style.compact, opening, &lexemes.again());
+    let Some(bracket) = piece_columns(style.compact, opening, &pieces.again()) else {
+        return false;
+    };
     let begun = column.saturating_add(bracket);
     if begun > style.width {
         return false;
     }
-    lexemes
+    pieces
         .columns_with_comma(style.compact, style.width - begun)
         .is_some()
 }
 
-// Whether nothing stands in the list that is open here.
-#[inline(always)]
-fn is_empty(lexemes: &Lexemes<'_>) -> bool
-    ensures { result ≡ stops closes lexemes.now }
-{
-    match lexemes.peek() {
-        Some(lexeme) => closes(lexeme),
-        None => true,
-    }
-}
-
 // Whether a number fits the line after a space, with its comma.
 #[inline(always)]
-fn number_fits(style: Style, column: usize, lexeme: Lexeme<'_>, comma: bool) -> bool
-    ensures { result ≡ number_fits style column (text_of lexeme.entry) comma }
+fn number_fits(style: Style, column: usize, piece: Piece<'_>, comma: bool) -> bool
+    requires { IsPiece piece }
+    ensures { result ≡ number_fits style column (piece_text piece.entry) comma }
 {
-    let end = column
-        .saturating_add(1)
-        .saturating_add(text_columns(lexeme));
+    let end = column.saturating_add(1).saturating_add(text_columns(piece));
     end.saturating_add(usize::from(comma)) <= style.width
 }
 
-// The gap before a lexeme of a list on one line.
+// The gap before a piece of a list on one line.
 #[inline(always)]
-fn flat_gap(style: Style, joint: Joint, lexeme: Lexeme<'_>) -> Gap
-    requires { IsNamed lexeme }
-    ensures { result ≡ flat_gap style joint (text_of lexeme.entry) }
+fn flat_gap(style: Style, joint: Joint, piece: Piece<'_>) -> Gap
+    requires { IsPiece piece }
+    ensures { result ≡ flat_gap style joint (piece_text piece.entry) }
 {
     match joint {
         Joint::Space => Gap::Space,
-        Joint::Brace if !style.compact && !closes(lexeme) => Gap::Space,
+        Joint::Brace if !style.compact && !closes(piece) => Gap::Space,
         Joint::Brace => Gap::Nothing,
-        _ if !style.compact && matches!(lexeme, Lexeme::CloseObject) => Gap::Space,
+        _ if !style.compact && matches!(piece, Piece::CloseObject) => Gap::Space,
         _ => Gap::Nothing,
     }
 }
 
-// What joins the next lexeme to one of a list on one line.
+// What joins the next piece to one of a list on one line.
 #[inline(always)]
-fn flat_joint(lexeme: Lexeme<'_>) -> Joint
-    requires { IsNamed lexeme }
-    ensures { result ≡ flat_joint (text_of lexeme.entry) }
+fn flat_joint(piece: Piece<'_>) -> Joint
+    requires { IsPiece piece }
+    ensures { result ≡ flat_joint (piece_text piece.entry) }
 {
-    match lexeme {
-        Lexeme::Comma | Lexeme::Colon => Joint::Space,
-        Lexeme::OpenObject => Joint::Brace,
+    match piece {
+        Piece::Comma | Piece::Colon => Joint::Space,
+        Piece::OpenObject(_) => Joint::Brace,
         _ => Joint::Nothing,
     }
 }
@@ -177,16 +167,16 @@ fn gap_end(column: usize, gap: Gap) -> usize
 }
 
 impl State {
-    // Goes past a lexeme of a list on one line.
+    // Goes past a piece of a list on one line.
     #[inline(always)]
-    fn pass_flat(&mut self, lexeme: Lexeme<'_>)
-        requires { IsNamed lexeme }
-        ensures { self.new ≡ flat_after self.old (text_of lexeme.entry) }
+    fn pass_flat(&mut self, piece: Piece<'_>)
+        requires { IsPiece piece }
+        ensures { self.new ≡ flat_after self.old (piece_text piece.entry) }
     {
-        self.joint = flat_joint(lexeme);
-        match lexeme {
-            Lexeme::OpenObject | Lexeme::OpenArray => self.flat = self.flat.saturating_add(1),
-            Lexeme::CloseObject | Lexeme::CloseArray => self.flat = self.flat.saturating_sub(1),
+        self.joint = flat_joint(piece);
+        match piece {
+            Piece::OpenObject(_) | Piece::OpenArray(_) => self.flat = self.flat.saturating_add(1),
+            Piece::CloseObject | Piece::CloseArray => self.flat = self.flat.saturating_sub(1),
             _ => {}
         }
     }
@@ -210,15 +200,16 @@ impl State {
         self.joint = Joint::Nothing;
     }
 
-    // The gap before a value or a key, after whose first lexeme these come.
+    // The gap before a value or a key, after whose first piece these come.
     #[inline(always)]
-    fn value_gap(&self, style: Style, lexeme: Lexeme<'_>, lexemes: &Lexemes<'_>) -> Gap
-        ensures { result ≡ value_gap style self.now self.now.joint (text_of lexeme.entry) (next_is (is_json_sign comma) lexemes.now) }
+    fn value_gap(&self, style: Style, piece: Piece<'_>, pieces: &Pieces<'_>) -> Gap
+        requires { IsPiece piece }
+        ensures { result ≡ value_gap style self.now self.now.joint (piece_text piece.entry) (next_is (is_json_sign comma) pieces.now) }
     {
         match self.joint {
             Joint::Nothing | Joint::Brace => Gap::Nothing,
             Joint::Space => Gap::Space,
-            Joint::Fill if number_fits(style, self.column, lexeme, lexemes.next_is_comma()) => {
+            Joint::Fill if number_fits(style, self.column, piece, pieces.next_is_comma()) => {
                 Gap::Space
             }
             Joint::Line | Joint::Fill => Gap::Line(indent_at(style, self.depth)),
@@ -227,107 +218,100 @@ impl State {
 
     // Goes past the bracket that opens a list at a column.
     #[inline(always)]
-    fn open_at(
-        &mut self,
-        style: Style,
-        column: usize,
-        opening: Lexeme<'_>,
-        lexemes: &mut Lexemes<'_>,
-    )
-        requires { IsNamed opening }
-        ensures same { lexemes.new ≡ lexemes.old }
-        ensures state { self.new ≡ open_at style self.old column (text_of opening.entry) lexemes.old }
+    fn open_at(&mut self, style: Style, column: usize, opening: Piece<'_>, pieces: &mut Pieces<'_>)
+        requires bounded { style.width < greatest_width }
+        requires piece { IsPiece opening }
+        ensures same { pieces.new ≡ pieces.old }
+        ensures state { self.new ≡ open_at style self.old column (piece_text opening.entry) pieces.old }
     {
         self.column = column;
-        if is_empty(lexemes) || list_fits(lexemes, style, column, opening) {
+        if pieces.is_at_end() || list_fits(pieces, style, column, opening) {
             self.flat = 1;
             self.joint = flat_joint(opening);
             return;
         }
         self.depth = self.depth.saturating_add(1);
-        self.fills = matches!(opening, Lexeme::OpenArray) && all_fill(style.fill, lexemes.again());
+        self.fills = matches!(opening, Piece::OpenArray(_)) && all_fill(style.fill, pieces.again());
         self.joint = Joint::Line;
     }
 
     // The column after a word or a key that begins at a column. It isn't counted where a comma comes next, and then a new line.
     #[inline(always)]
-    fn word_end(&self, column: usize, lexeme: Lexeme<'_>, lexemes: &Lexemes<'_>) -> usize
-        ensures { result ≡ word_end self.now.fills column (text_of lexeme.entry) lexemes.now }
+    fn word_end(&self, column: usize, piece: Piece<'_>, pieces: &Pieces<'_>) -> usize
+        requires { IsPiece piece }
+        ensures { result ≡ word_end self.now.fills column (piece_text piece.entry) pieces.now }
     {
-        if !self.fills && lexemes.next_is_comma() {
+        if !self.fills && pieces.next_is_comma() {
             column
         } else {
-            column.saturating_add(text_columns(lexeme))
+            column.saturating_add(text_columns(piece))
         }
     }
 
-    // Goes past the first lexeme of a value, or a key, at a column.
+    // Goes past the first piece of a value, or a key, at a column.
     #[inline(always)]
-    fn value_at(
-        &mut self,
-        style: Style,
-        column: usize,
-        lexeme: Lexeme<'_>,
-        lexemes: &mut Lexemes<'_>,
-    )
-        requires { IsNamed lexeme }
-        ensures same { lexemes.new ≡ lexemes.old }
-        ensures state { self.new ≡ value_at style self.old column (text_of lexeme.entry) lexemes.old }
+    fn value_at(&mut self, style: Style, column: usize, piece: Piece<'_>, pieces: &mut Pieces<'_>)
+        requires bounded { style.width < greatest_width }
+        requires piece { IsPiece piece }
+        ensures same { pieces.new ≡ pieces.old }
+        ensures state { self.new ≡ value_at style self.old column (piece_text piece.entry) pieces.old }
     {
-        if opens(lexeme) {
-            self.open_at(style, column, lexeme, lexemes);
+        if opens(piece) {
+            self.open_at(style, column, piece, pieces);
         } else {
-            self.column = self.word_end(column, lexeme, lexemes);
+            self.column = self.word_end(column, piece, pieces);
             self.joint = Joint::Nothing;
         }
     }
 
-    // The gap before a value or a key. Goes past its first lexeme.
+    // The gap before a value or a key. Goes past its first piece.
     #[inline(always)]
-    fn value(&mut self, style: Style, lexeme: Lexeme<'_>, lexemes: &mut Lexemes<'_>) -> Gap
-        requires { IsNamed lexeme }
-        ensures same { lexemes.new ≡ lexemes.old }
-        ensures gap { result ≡ value_gap style self.old self.old.joint (text_of lexeme.entry) (next_is (is_json_sign comma) lexemes.old) }
-        ensures state { self.new ≡ value_at style self.old (gap_end self.old.column result) (text_of lexeme.entry) lexemes.old }
+    fn value(&mut self, style: Style, piece: Piece<'_>, pieces: &mut Pieces<'_>) -> Gap
+        requires bounded { style.width < greatest_width }
+        requires piece { IsPiece piece }
+        ensures same { pieces.new ≡ pieces.old }
+        ensures gap { result ≡ value_gap style self.old self.old.joint (piece_text piece.entry) (next_is (is_json_sign comma) pieces.old) }
+        ensures state { self.new ≡ value_at style self.old (gap_end self.old.column result) (piece_text piece.entry) pieces.old }
     {
-        let gap = self.value_gap(style, lexeme, lexemes);
+        let gap = self.value_gap(style, piece, pieces);
         let column = gap_end(self.column, gap);
-        self.value_at(style, column, lexeme, lexemes);
+        self.value_at(style, column, piece, pieces);
         gap
     }
 
-    // The gap before a lexeme, after which these come. Goes past it.
+    // The gap before a piece, after which these come. Goes past it.
     #[inline(always)]
-    fn step(&mut self, style: Style, lexeme: Lexeme<'_>, lexemes: &mut Lexemes<'_>) -> Gap
-        requires { IsNamed lexeme }
-        ensures same { lexemes.new ≡ lexemes.old }
-        ensures gap { result ≡ gap_before style self.old (text_of lexeme.entry) lexemes.old }
-        ensures state { self.new ≡ state_after style self.old (text_of lexeme.entry) lexemes.old }
+    fn step(&mut self, style: Style, piece: Piece<'_>, pieces: &mut Pieces<'_>) -> Gap
+        requires bounded { style.width < greatest_width }
+        requires piece { IsPiece piece }
+        ensures same { pieces.new ≡ pieces.old }
+        ensures gap { result ≡ gap_before style self.old (piece_text piece.entry) pieces.old }
+        ensures state { self.new ≡ state_after style self.old (piece_text piece.entry) pieces.old }
     {
         if self.flat > 0 {
-            let gap = flat_gap(style, self.joint, lexeme);
-            self.pass_flat(lexeme);
+            let gap = flat_gap(style, self.joint, piece);
+            self.pass_flat(piece);
             return gap;
         }
-        match lexeme {
-            Lexeme::Comma if self.fills => {
+        match piece {
+            Piece::Comma if self.fills => {
                 self.pass_mark(Joint::Fill);
                 Gap::Nothing
             }
-            Lexeme::Comma => {
+            Piece::Comma => {
                 self.pass_mark(Joint::Line);
                 Gap::Nothing
             }
-            Lexeme::Colon => {
+            Piece::Colon => {
                 self.pass_mark(Joint::Space);
                 Gap::Nothing
             }
-            Lexeme::CloseObject | Lexeme::CloseArray => {
+            Piece::CloseObject | Piece::CloseArray => {
                 let indent = indent_at(style, self.depth.saturating_sub(1));
                 self.pass_close();
                 Gap::Line(indent)
             }
-            _ => self.value(style, lexeme, lexemes),
+            _ => self.value(style, piece, pieces),
         }
     }
 }
@@ -335,7 +319,7 @@ impl State {
 /// The lexemes of a text as they are laid out in a style. A clause sees the bytes of the layout that are left.
 #[derive(Drop)]
 pub(crate) struct Layout<'a> {
-    lexemes: Lexemes<'a>,
+    pieces: Pieces<'a>,
     style: Style,
     state: State,
     /// Where it stands in the text, if blank lines are kept.
@@ -344,23 +328,25 @@ pub(crate) struct Layout<'a> {
 }
 
 impl<'a> Model for Layout<'a> {
-    ghost use Rattle.std.specs.Prelude.{ℕ, List, ⊤};
+    ghost use Rattle.std.specs.Prelude.{ℕ, ◌<◌, List};
+    ghost use Rattle.json_formatter.specs.Documents.{greatest_width};
     ghost use Rattle.json_formatter.specs.Kept.{laid_left};
 
     ghost Value = { List ℕ };
 
-    ghost view = { λ a. laid_left a.style a.state a.kept a.spelling a.lexemes };
+    ghost view = { λ a. laid_left a.style a.state a.kept a.spelling a.pieces };
 
-    ghost invariant = { λ a. ⊤ };
+    ghost invariant = { λ a. a.style.width < greatest_width };
 }
 
 impl<'a> Layout<'a> {
     /// The lexemes of this text, laid out in this style, and spelled so.
     pub(crate) fn new(alloc: Global, text: &'a str, style: Style, spelling: Spelling) -> Layout<'a>
-        ensures { result ≡ laid_left style start_state (kept_of style text.now) spelling (lexemes text.now) }
+        requires { style.width < greatest_width }
+        ensures { result ≡ laid_left style start_state (kept_of style text.now) spelling (text_pieces style text.now) }
     {
         Layout {
-            lexemes: Lexemes::new(alloc, text, style.compact),
+            pieces: Pieces::new(alloc, text, style.compact),
             style,
             state: START,
             kept: if style.blank_lines {
@@ -379,8 +365,19 @@ impl<'a> Layout<'a> {
             (λ next. self.old ≡ spelled_bytes next.0 ++ (text_of next.1 ++ self.new)) }
         ensures fewer { IfSome result (λ next. length self.new < length self.old) }
     {
-        let lexeme = self.lexemes.next()?;
-        let gap = self.state.step(self.style, lexeme, &mut self.lexemes);
+        self.advance()
+    }
+
+    // The same. No lexeme is empty.
+    #[inline(always)]
+    fn advance(&mut self) -> Option<(Spelled, Lexeme<'a>)>
+        ensures next { MatchOption result ((self.old ≡ []) × (self.new ≡ []))
+            (λ next. self.old ≡ spelled_bytes next.0 ++ (text_of next.1 ++ self.new)) }
+        ensures named { IfSome result (λ next. IsNamed next.1) }
+    {
+        let piece = self.pieces.next()?;
+        let gap = self.state.step(self.style, piece, &mut self.pieces);
+        let lexeme = piece.lexeme();
         match &mut self.kept {
             Some(kept) => Some((self.spelling.spell(kept.gap(gap, lexeme)), lexeme)),
             None => Some((self.spelling.spell(gap), lexeme)),

@@ -8,7 +8,6 @@ ghost use Rattle.json_formatter.specs.Documents.{is_json_sign};
 ghost use Rattle.json_formatter.specs.Gaps.{gap_bytes};
 
 use crate::gaps::Gap;
-use crate::kind::is_comma;
 use json_lexemes::{BlankLines, Lexeme};
 
 /// Where a layout that keeps blank lines stands in its text.
@@ -40,7 +39,7 @@ impl<'a> Kept<'a> {
     {
         let is_blank = self.blank_lines.pass(lexeme);
         let after_comma = self.after_comma;
-        self.after_comma = is_comma(lexeme);
+        self.after_comma = matches!(lexeme, Lexeme::Comma);
         match gap {
             Gap::Line(indent) if after_comma && is_blank => Gap::BlankLine(indent),
             _ => gap,

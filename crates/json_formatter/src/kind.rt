@@ -1,54 +1,54 @@
 ghost use Rattle.std.specs.Prelude.{◌≡◌};
 ghost use Rattle.json.specs.Ascii.{comma};
-ghost use Rattle.json_lexemes.specs.View.{text_of, IsNamed};
+ghost use Rattle.json_formatter.specs.PieceTexts.{piece_text, IsPiece};
 ghost use Rattle.json_formatter.specs.Documents.{closes, is_number, is_json_sign, may_fill, opens};
 
+use crate::piece::Piece;
 use crate::style::Fill;
-use json_lexemes::Lexeme;
 
-/// Whether the lexeme opens a list, which is an object or an array.
-pub(crate) fn opens(lexeme: Lexeme<'_>) -> bool
-    requires { IsNamed lexeme }
-    ensures { result ≡ opens (text_of lexeme.entry) }
+/// Whether the piece opens a list, which is an object or an array.
+pub(crate) fn opens(piece: Piece<'_>) -> bool
+    requires { IsPiece piece }
+    ensures { result ≡ opens (piece_text piece.entry) }
 {
-    matches!(lexeme, Lexeme::OpenObject | Lexeme::OpenArray)
+    matches!(piece, Piece::OpenObject(_) | Piece::OpenArray(_))
 }
 
-/// Whether the lexeme closes a list.
-pub(crate) fn closes(lexeme: Lexeme<'_>) -> bool
-    requires { IsNamed lexeme }
-    ensures { result ≡ closes (text_of lexeme.entry) }
+/// Whether the piece closes a list.
+pub(crate) fn closes(piece: Piece<'_>) -> bool
+    requires { IsPiece piece }
+    ensures { result ≡ closes (piece_text piece.entry) }
 {
-    matches!(lexeme, Lexeme::CloseObject | Lexeme::CloseArray)
+    matches!(piece, Piece::CloseObject | Piece::CloseArray)
 }
 
-/// Whether the lexeme is a comma.
-pub(crate) fn is_comma(lexeme: Lexeme<'_>) -> bool
-    requires { IsNamed lexeme }
-    ensures { result ≡ is_json_sign comma (text_of lexeme.entry) }
+/// Whether the piece is a comma.
+pub(crate) fn is_comma(piece: Piece<'_>) -> bool
+    requires { IsPiece piece }
+    ensures { result ≡ is_json_sign comma (piece_text piece.entry) }
 {
-    matches!(lexeme, Lexeme::Comma)
+    matches!(piece, Piece::Comma)
 }
 
-/// Whether the lexeme is a number, where it is one of a JSON text.
-pub(crate) fn is_number(lexeme: Lexeme<'_>) -> bool
-    requires { IsNamed lexeme }
-    ensures { result ≡ is_number (text_of lexeme.entry) }
+/// Whether the piece is a number, where it is one of a JSON text.
+pub(crate) fn is_number(piece: Piece<'_>) -> bool
+    requires { IsPiece piece }
+    ensures { result ≡ is_number (piece_text piece.entry) }
 {
-    match lexeme {
-        Lexeme::Word(word) => matches!(word.as_bytes(), [b'-' | b'0'..=b'9', ..]),
+    match piece {
+        Piece::Word(word) => matches!(word.as_bytes(), [b'-' | b'0'..=b'9', ..]),
         _ => false,
     }
 }
 
-/// Whether the lexeme may be an item of an array that fills its lines, where it is a lexeme of a JSON text.
-pub(crate) fn may_fill(fill: Fill, lexeme: Lexeme<'_>) -> bool
-    requires { IsNamed lexeme }
-    ensures { result ≡ may_fill fill (text_of lexeme.entry) }
+/// Whether the piece may be an item of an array that fills its lines, where it is a lexeme of a JSON text.
+pub(crate) fn may_fill(fill: Fill, piece: Piece<'_>) -> bool
+    requires { IsPiece piece }
+    ensures { result ≡ may_fill fill (piece_text piece.entry) }
 {
     match fill {
-        Fill::Numbers => is_number(lexeme),
-        Fill::All => !opens(lexeme),
+        Fill::Numbers => is_number(piece),
+        Fill::All => !opens(piece),
         Fill::Nothing => false,
     }
 }

@@ -2,6 +2,7 @@ ghost use Rattle.std.specs.Prelude.{◌≡◌, IfOk, IfErr, OnErr, OnOk};
 ghost use Rattle.json_validity.specs.Document.{IsJsonWithin};
 ghost use Rattle.std.specs.String.{string_bytes};
 ghost use Rattle.json_formatter.specs.BlankLines.{layout_of};
+ghost use Rattle.json_formatter.specs.Documents.{bounded};
 ghost use Rattle.json_formatter.specs.Formats.{depth_of, IsFormatted, IsRefused, Formats};
 ghost use Rattle.prettyless_sink.specs.Sink.{Accepts, Refuses};
 
@@ -23,6 +24,16 @@ fn depth_of(style: Style) -> usize
     style.depth.min(MAX_DEPTH)
 }
 
+// The style whose lines are narrower than the greatest number of columns that is counted.
+fn bounded(style: Style) -> Style
+    ensures { result ≡ bounded style }
+{
+    Style {
+        width: style.width.min(usize::MAX - 1),
+        ..style
+    }
+}
+
 // Makes sure that a text is JSON, and no deeper than the style allows.
 fn check_json(alloc: Global, text: &str, style: Style) -> Result<(), FormatError>
     ensures ok { OnOk result (IsJsonWithin (depth_of style) text.now) }
@@ -40,7 +51,7 @@ fn check_json(alloc: Global, text: &str, style: Style) -> Result<(), FormatError
 /// The layout of a JSON text in this style, and a line end. It is the same value, and has the same lexemes. Laid out again
 /// in this style, it stays as it is.
 ///
-/// `NotJson` only where the text is no JSON, and `TooDeep` only where it is JSON and deeper than the style allows. `Memory` where
+/// `NotJson` only where the text is not JSON, and `TooDeep` only where it is JSON and deeper than the style allows. `Memory` where
 /// memory is refused, whatever the text is.
 ///
 /// ```
@@ -53,14 +64,14 @@ pub fn formatted(alloc: Global, text: &str, style: Style) -> Result<String, Form
     check_json(alloc, text, style)?;
     let mut layout = String::new(alloc);
     let spelling = Spelling::of(style, text);
-    let mut lexemes = Layout::new(alloc, text, style, spelling);
+    let mut lexemes = Layout::new(alloc, text, bounded(style), spelling);
     push_layout(&mut layout, &mut lexemes, spelling.line_end())?;
     Ok(layout)
 }
 
 /// Writes the layout of a JSON text in this style, and a line end, while the text is laid out.
 ///
-/// `NotJson` only where the text is no JSON, `TooDeep` only where it is JSON and deeper than the style allows, and `Memory` where
+/// `NotJson` only where the text is not JSON, `TooDeep` only where it is JSON and deeper than the style allows, and `Memory` where
 /// memory is refused, whatever the text is: then nothing was written. `Write` where the writer fails: then a beginning was
 /// written, and not all.
 ///
@@ -77,13 +88,13 @@ pub fn format<W: Write>(
 {
     check_json(alloc, text, style)?;
     let spelling = Spelling::of(style, text);
-    let mut lexemes = Layout::new(alloc, text, style, spelling);
+    let mut lexemes = Layout::new(alloc, text, bounded(style), spelling);
     write_layout(writer, &mut lexemes, spelling.line_end())
 }
 
 /// Puts the layout of a JSON text in this style, and a line end, into a sink, while the text is laid out.
 ///
-/// `NotJson` only where the text is no JSON, `TooDeep` only where it is JSON and deeper than the style allows, and `Memory` where
+/// `NotJson` only where the text is not JSON, `TooDeep` only where it is JSON and deeper than the style allows, and `Memory` where
 /// memory is refused, whatever the text is: then the sink is as it was. Where the sink fails it got a beginning and no piece
 /// after that, and the inner answer is its error.
 ///
@@ -107,6 +118,6 @@ pub fn render<S: Render>(
 {
     check_json(alloc, text, style)?;
     let spelling = Spelling::of(style, text);
-    let mut lexemes = Layout::new(alloc, text, style, spelling);
+    let mut lexemes = Layout::new(alloc, text, bounded(style), spelling);
     Ok(render_layout(sink, &mut lexemes, spelling.line_end()))
 }

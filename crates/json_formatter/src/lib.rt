@@ -11,6 +11,7 @@ mod kind;
 mod laws;
 mod layout;
 mod output;
+mod piece;
 mod scanner;
 mod sink;
 mod spelling;

@@ -1,8 +1,10 @@
 ghost use Rattle.std.specs.Prelude.{◌≡◌, ℕ, ◌-◌, ◌<◌, ◌≤◌, ◌∷◌, ◌++◌, [], true, false, List, IfOk, length, take};
-ghost use Rattle.json_formatter.specs.Window.{closed_last, comma_columns, rest_at, AreWithin, IsRight, IsWidthUpTo, Knows};
+ghost use Rattle.json_formatter.specs.Window.{closed_last, comma_columns, rest_at, AreWithin, IsLast, IsRight, IsWidthUpTo};
+ghost use Rattle.json_formatter.specs.Window.{Knows};
+ghost use Rattle.json_formatter.specs.Documents.{greatest_width};
 
 use crate::ahead::Ahead;
-use crate::columns::lexeme_columns;
+use crate::columns::piece_columns;
 use crate::kind::{closes, opens};
 use std::alloc::{AllocError, Global};
 
@@ -16,10 +18,10 @@ pub(crate) struct Opened {
     width: Option<usize>,
 }
 
-/// Goes over lexemes ahead of their reader, and measures the lists that it sees opened, each lexeme once.
+/// Goes over pieces ahead of their reader, and measures the lists that it sees opened, each piece once.
 #[derive(Drop)]
 pub(crate) struct Scanner<'a> {
-    lexemes: Ahead<'a>,
+    pieces: Ahead<'a>,
     lists: Vec<Opened>,
     unclosed: Vec<usize>,
     total: usize,
@@ -28,15 +30,15 @@ pub(crate) struct Scanner<'a> {
 }
 
 impl<'a> Scanner<'a> {
-    /// Has seen no list, and goes on with these lexemes.
-    pub(crate) fn new(alloc: Global, lexemes: Ahead<'a>, compact: bool) -> Scanner<'a>
+    /// Has seen no list, and goes on with these pieces.
+    pub(crate) fn new(alloc: Global, pieces: Ahead<'a>, compact: bool) -> Scanner<'a>
         ensures compact { result.compact ≡ compact }
-        ensures lexemes { result.lexemes ≡ lexemes.entry }
+        ensures pieces { result.pieces ≡ pieces.entry }
         ensures lists { result.lists.items ≡ [] }
         ensures unclosed { result.unclosed.items ≡ [] }
     {
         Scanner {
-            lexemes,
+            pieces,
             lists: Vec::new(alloc),
             unclosed: Vec::new(alloc),
             total: 0,
@@ -60,20 +62,20 @@ impl<'a> Scanner<'a> {
         self.lists.len()
     }
 
-    /// Forgets all lists, and goes on with these lexemes.
-    pub(crate) fn restart(&mut self, lexemes: Ahead<'a>)
+    /// Forgets all lists, and goes on with these pieces.
+    pub(crate) fn restart(&mut self, pieces: Ahead<'a>)
         ensures compact { self.new.compact ≡ self.old.compact }
-        ensures lexemes { self.new.lexemes ≡ lexemes.entry }
+        ensures pieces { self.new.pieces ≡ pieces.entry }
         ensures lists { self.new.lists.items ≡ [] }
         ensures unclosed { self.new.unclosed.items ≡ [] }
     {
-        self.lexemes = lexemes;
+        self.pieces = pieces;
         self.lists.clear();
         self.unclosed.clear();
         self.total = 0;
     }
 
-    /// Adds the list whose opening lexeme was scanned last.
+    /// Adds the list whose bracket was scanned last.
     ///
     /// `AllocError` where memory is refused.
     pub(crate) fn opened(&mut self) -> Result<(), AllocError>
@@ -83,7 +85,7 @@ impl<'a> Scanner<'a> {
         ensures unclosed { IfOk result (λ _. self.new.unclosed.items
             ≡ self.old.unclosed.items ++ length self.old.lists.items ∷ []) }
         ensures total { self.new.total ≡ self.old.total }
-        ensures lexemes { self.new.lexemes ≡ self.old.lexemes }
+        ensures pieces { self.new.pieces ≡ self.old.pieces }
     {
         self.unclosed.push(self.lists.len())?;
         self.lists.push(Opened {
@@ -93,28 +95,28 @@ impl<'a> Scanner<'a> {
         Ok(())
     }
 
-    /// Sets the width of the innermost list, whose closing lexeme was scanned last.
+    /// Sets the width of the innermost list, whose end was scanned last.
     ///
     /// `AllocError` where the width is more than a `usize` holds.
     fn closed(&mut self) -> Result<(), AllocError>
         requires { AreWithin self.old.lists.items self.old.unclosed.items self.old.total }
         ensures compact { self.new.compact ≡ self.old.compact }
         ensures lists { IfOk result (λ _. self.new.lists.items ≡ closed_last
-            self.old.lists.items self.old.unclosed.items self.old.total (comma_columns self.old.lexemes)) }
+            self.old.lists.items self.old.unclosed.items self.old.total (comma_columns self.old.pieces)) }
         ensures unclosed { IfOk result (λ _. self.new.unclosed.items
             ≡ take (length self.old.unclosed.items - 1) self.old.unclosed.items) }
         ensures total { self.new.total ≡ self.old.total }
-        ensures lexemes { self.new.lexemes ≡ self.old.lexemes }
+        ensures pieces { self.new.pieces ≡ self.old.pieces }
     {
         if let Some(index) = self.unclosed.pop() {
             let width = self.total - self.lists[index].start;
-            let comma = usize::from(self.lexemes.next_is_comma());
+            let comma = usize::from(self.pieces.next_is_comma());
             self.lists[index].width = Some(width.checked_add(comma).ok_or(AllocError)?);
         }
         Ok(())
     }
 
-    /// Scans one lexeme, or answers `false` where none is left.
+    /// Scans one piece, or answers `false` where none is left, or a bracket comes next whose list is kept broken.
     ///
     /// `AllocError` where memory is refused, or the columns are more than a `usize` holds: nothing is known of the lists then.
     fn step(&mut self) -> Result<bool, AllocError>
@@ -124,35 +126,38 @@ impl<'a> Scanner<'a> {
             → Knows self.old rests → Knows self.new rests) }
         ensures lists { IfOk result (λ _. length self.old.lists.items ≤ length self.new.lists.items) }
         ensures shorter { IfOk result (λ more. more ≡ true
-            → length self.new.lexemes < length self.old.lexemes) }
+            → length self.new.pieces < length self.old.pieces) }
         ensures end { IfOk result (λ more. more ≡ false
-            → (self.old.lexemes ≡ []) × (self.new ≡ self.old)) }
+            → IsLast self.old.compact self.old.pieces × (self.new ≡ self.old)) }
     {
-        let Some(lexeme) = self.lexemes.next() else {
+        let mut pieces = self.pieces.again();
+        let Some(piece) = pieces.next() else {
             return Ok(false);
         };
-        let Some(total) = self
-            .total
-            .checked_add(lexeme_columns(self.compact, lexeme, &self.lexemes))
-        else {
+        let Some(columns) = piece_columns(self.compact, piece, &pieces) else {
+            return Ok(false);
+        };
+        let Some(total) = self.total.checked_add(columns) else {
             return Err(AllocError);
         };
         self.total = total;
-        if opens(lexeme) {
+        self.pieces = pieces;
+        if opens(piece) {
             self.opened()?;
-        } else if closes(lexeme) {
+        } else if closes(piece) {
             self.closed()?;
         }
         Ok(true)
     }
 
-    /// The columns that a list takes from its opening lexeme to what closes it, with the comma after that, if one comes, where
+    /// The columns that a list takes from its bracket to what closes it, with the comma after that, if one comes, where
     /// these are at most so many. The scanner goes on until it knows.
     ///
     /// `AllocError` where memory is refused, or the columns are more than a `usize` holds: nothing is known of the lists then.
     pub(crate) fn width(&mut self, index: usize, most: usize) -> Result<Option<usize>, AllocError>
         requires right { IsRight self.old }
         requires index { index < length self.old.lists.items }
+        requires most { most < greatest_width }
         ensures compact { self.new.compact ≡ self.old.compact }
         ensures scanned { IfOk result (λ _. (rests : List (List (List ℕ)))
             → Knows self.old rests → Knows self.new rests) }

@@ -24,7 +24,7 @@ pub enum LineEnd {
 /// How a text is laid out.
 #[derive(Clone, Copy, Debug, Drop, PartialEq, Eq)]
 pub struct Style {
-    /// The width of a line, in columns.
+    /// The width of a line, in columns. The greatest is as much as one less.
     pub width: usize,
     /// By how many columns the members of an object or an array are indented relative to its brackets.
     pub indent: u32,
@@ -35,7 +35,8 @@ pub struct Style {
     pub fill: Fill,
     /// Whether a blank line is kept between two members, where lines are broken between them. Of several one is kept.
     pub blank_lines: bool,
-    /// Whether an object on one line has no blanks inside its braces.
+    /// Whether the layout is that of the value alone. Else an object or an array with something in it stays broken where a line ends
+    /// after its opening bracket, and an object on one line has blanks inside its braces.
     pub compact: bool,
     /// How deep arrays and objects may be in one another. More than 100,000 is as much.
     pub depth: usize,
@@ -48,7 +49,7 @@ impl Default for Style {
         × (style.fill ≡ Numbers) × (style.blank_lines ≡ false) × (style.compact ≡ false) × (style.depth ≡ 1000) };
 
     /// 80 columns, indents of 2 spaces, line ends as in the text, lines that are filled in arrays of numbers alone, no blank lines,
-    /// blanks inside braces, and 1,000 levels.
+    /// not compact, and 1,000 levels.
     fn default() -> Style {
         Style {
             width: 80,

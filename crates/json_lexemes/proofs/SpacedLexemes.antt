@@ -1,10 +1,16 @@
 -- The lexemes of a text with their gaps.
-use Rattle.std.proofs.Common.{◌≡◌, ℕ, ◌+◌, List, [], ◌∷◌, ◌++◌, length, drop, refl, sym, ap, ◌∙◌, subst, append_assoc}
+use Rattle.std.proofs.Common.{◌≡◌, ℕ, ◌+◌, ◌-◌, List, [], ◌∷◌, ◌++◌, length, drop, take, refl, sym, ap, ◌∙◌, subst, append_assoc, inl, inr}
+use Rattle.std.proofs.Common.{◌⊎◌, true, false, arith}
+use Rattle.std.proofs.lemmas.Bool.{cases_Bool}
+use Rattle.std.proofs.lemmas.List.{drop-drop}
+use Rattle.json.specs.Lex.{between}
+use Rattle.json.specs.Word.{is_space}
 use Rattle.std.proofs.Math.Seq.{drop-append-add, drop-append_seam}
 use Rattle.json_lexemes.specs.Laws.{GapsAreSpaces, SpacedAreLexemes, TextsAreJoined}
-use Rattle.json_lexemes.specs.Lexemes.{lexemes}
+use Rattle.json_lexemes.specs.Lexemes.{cut, lexemes}
 use Rattle.json_lexemes.specs.Spaced.{IsGap, IsSpacedJson}
 use Rattle.json_lexemes.specs.SpacedLexemes.{AreGaps, Spaced, after_gap, after_lexeme, first_spaces, lexemes_of, put_together, spaced_as}
+use Rattle.json_lexemes.specs.SpacedLexemes.{spaced_lexemes}
 use Rattle.json_lexemes.proofs.Gaps.{IsSpaced-lexemes}
 use Rattle.json_lexemes.proofs.NotEmpty.{AreBegun, IsBegun, lexemes_begun}
 
@@ -100,3 +106,38 @@ gaps_spaces text = (text_joined text).gaps
 
 pub spaced_are_lexemes : SpacedAreLexemes
 spaced_are_lexemes text = spaced_lexemes_of text (lexemes text)
+
+-- ---- the next lexeme
+
+-- so many bytes are the spaces that come first
+spaces_taken : (xs : List ℕ) → take (length (first_spaces xs)) xs ≡ first_spaces xs
+spaces_taken [] = refl
+spaces_taken (x ∷ xs) = by (spaces_taken xs) (cases_Bool (is_space x))
+  where
+    by : take (length (first_spaces xs)) xs ≡ first_spaces xs → (is_space x ≡ true) ⊎ (is_space x ≡ false)
+        → take (length (first_spaces (x ∷ xs))) (x ∷ xs) ≡ first_spaces (x ∷ xs)
+    by below (inl e) = rw e (ap (λ (l : List ℕ). x ∷ l) below)
+    by below (inr e) = rw e refl
+
+-- none is left
+pub none_spaced : (d : List ℕ) (from place : ℕ) → cut between (drop place d) ≡ cut between (drop from d) → cut between (drop place d) ≡ []
+    → spaced_lexemes (drop from d) ≡ []
+none_spaced d from place passed none = ap (λ (ss : List (List ℕ)). spaced_as (drop from d) ss) (sym passed ∙ none)
+
+-- after the spaces from one place to another comes this one
+pub next_spaced : (d : List ℕ) (from place : ℕ) (s : List ℕ) → place ≡ from + length (first_spaces (drop from d))
+    → cut between (drop place d) ≡ cut between (drop from d)
+    → cut between (drop place d) ≡ s ∷ cut between (drop (place + length s) d)
+    → spaced_lexemes (drop from d) ≡ after_gap (take (place - from) (drop from d)) s ∷ spaced_lexemes (drop (place + length s) d)
+next_spaced d from place s spaces passed cuts =
+    let bytes = drop from d in
+    let after = cut between (drop (place + length s) d) in
+    let count : place - from ≡ length (first_spaces bytes) = omega (arith, spaces) in
+    let gap : first_spaces bytes ≡ take (place - from) bytes =
+    sym (ap (λ (n : ℕ). take n bytes) count ∙ spaces_taken bytes) in
+    let sum : from + (length (first_spaces bytes) + length s) ≡ place + length s = omega (arith, spaces) in
+    let rest : after_lexeme bytes s ≡ drop (place + length s) d =
+    drop-drop (length (first_spaces bytes) + length s) from d ∙ ap (λ (n : ℕ). drop n d) sum in
+    ap (λ (ss : List (List ℕ)). spaced_as bytes ss) (sym passed ∙ cuts)
+    ∙ ap (λ (g : List ℕ). after_gap g s ∷ spaced_as (after_lexeme bytes s) after) gap
+    ∙ ap (λ (l : List ℕ). after_gap (take (place - from) bytes) s ∷ spaced_as l after) rest

@@ -22,7 +22,7 @@ whole_texts text = (by (document text) refl, λ whole. is_document text whole.0 
     by None e some = absurd (false≢true some)
     by (Some v) e some = (before [] want.End, accepted text v e, refl)
 
--- what is not whole is no JSON
+-- what is not whole is not JSON
 no_document : (text : List ℕ) → (IsWhole text → ⊥) → document text ≡ None
 no_document text not = by (document text) refl
   where
@@ -59,7 +59,7 @@ ends_too_soon text offset e stop = no_document text not
         let same : whole.0 ≡ stop.reading = Some_inj whole.0 stop.reading (sym whole.1 ∙ all_read text stop.reading stop.reached) in
         stop.unfinished (ap (λ (r : JsonReading). r.next) (sym same) ∙ whole.2)
 
--- a text that is no JSON and was read to its end ends too soon
+-- a text that is not JSON and was read to its end ends too soon
 pub unfinished : (text : List ℕ) (reading : JsonReading) → ReachesJson text [] reading → document text ≡ None → reading.next ≡ want.End → ⊥
 unfinished text reading reached none end =
     false≢true (sym (ap is_some none) ∙ is_document text reading (all_read text reading reached) end)

@@ -73,7 +73,7 @@ StringsBeginJson =
 abbrev pub TextsBeginJson : Type 0
 TextsBeginJson = (text : List ℕ) (offset : ℕ) (e : Expected) → StopsAtEnd text offset e → BeginsJson text
 
--- a text that stops at its end is no JSON
+-- a text that stops at its end is not JSON
 abbrev pub EndsTooSoon : Type 0
 EndsTooSoon = (text : List ℕ) (offset : ℕ) (e : Expected) → StopsAtEnd text offset e → document text ≡ None
 

@@ -5,6 +5,7 @@ pub mod Grammar
 pub mod Laws
 pub mod View
 pub mod Lexer
+pub mod SpacedLexer
 pub mod Words
 pub mod Expected
 pub mod Next

@@ -22,7 +22,7 @@ use std::alloc::{AllocError, Global};
 use std::str::from_utf8;
 use text_places::{Place, place_at};
 
-/// Why a text is no JSON.
+/// Why a text is not JSON.
 #[derive(Clone, Copy, Drop)]
 pub struct Fault<'t> {
     /// The byte from which on it is none.
@@ -46,7 +46,7 @@ struct Stop<'t> {
     opened: Option<usize>,
 }
 
-/// The stop in a string that begins at this offset, which is no JSON: at the first part that may not be there, or at its end, where
+/// The stop in a string that begins at this offset, which is not JSON: at the first part that may not be there, or at its end, where
 /// its closing quote is missing.
 fn stop_in_string(text: &str, offset: usize) -> Stop<'_>
     requires { offset + length text.now < 2 ^ 64 }
@@ -180,7 +180,7 @@ fn fault_at<'t>(bytes: &[u8], stop: Stop<'t>) -> Fault<'t>
 }
 
 /// Where bytes stop being a JSON text, and why: at the first that is not UTF-8, or at the first lexeme that may not stand
-/// where it does, in a string at the first escape or control character that may not. For bytes that are no JSON text.
+/// where it does, in a string at the first escape or control character that may not. For bytes that are not a JSON text.
 ///
 /// `AllocError` where memory is refused.
 pub fn fault_of<'t>(alloc: Global, bytes: &'t [u8]) -> Result<Fault<'t>, AllocError>

@@ -12,6 +12,7 @@ mod laws;
 mod lexeme;
 mod lexer;
 mod next;
+mod spaced_lexer;
 mod string;
 
 pub use blank_lines::BlankLines;
@@ -21,3 +22,4 @@ pub use fault::{Fault, fault_of};
 pub use laws::{law_grammar, law_joined, law_reading, law_spacing, law_stops};
 pub use lexeme::Lexeme;
 pub use lexer::{Lexer, lexemes};
+pub use spaced_lexer::{SpacedLexer, has_line_end};

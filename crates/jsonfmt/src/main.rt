@@ -2,7 +2,7 @@
 //! [--line-ending lf|crlf] [--compact] [--depth N] [FILE]..` writes the layout of each file, or of standard input, to standard
 //! output while it is made. With `--write` the layout of a file replaces it, where it is not laid out already. With `--check` no
 //! layout is written: the files that are not laid out are named, and the status says whether there is one. With `--diff` it is
-//! printed how they differ from their layouts. A text that is no JSON is named with the place where it stops being JSON, what was
+//! printed how they differ from their layouts. A text that is not JSON is named with the place where it stops being JSON, what was
 //! expected there, and what stands there.
 #![tactic(auto)]
 

@@ -59,7 +59,7 @@ fn command<'w>(alloc: Global) -> Result<Command<'w>, AllocError>
     let compact = flag(
         alloc,
         "compact",
-        "Leave no blanks inside the braces of an object on one line",
+        "Lay out by the value alone, and leave no blanks inside the braces of an object on one line",
     );
     let with_compact = with_line_end.arg(compact)?;
     let levels = "How deep arrays and objects may be in one another, up to 100000 [default: 1000]";

@@ -31,7 +31,7 @@ style_of width indent fill keep_blank_lines = record {
   depth = max_depth;
 }
 
--- the bytes are no JSON text
+-- the bytes are not a JSON text
 abbrev pub IsNoJson : List ℕ → Type 0
 IsNoJson text = IsUtf8 text → document text ≡ None
 
@@ -45,7 +45,7 @@ pub record IsJsonFault (text old new : List ℕ) (written line column : ℕ) : T
   pub encoding : ¬ IsUtf8 text → expected ≡ Utf8
   -- and the place is that of the first byte that is none
   pub no_utf8 : ¬ IsUtf8 text → IsEndOfUtf8 text (record { line = line; column = column })
-  -- where it is, and no JSON, it stops being JSON there, and this was expected
+  -- where it is, and not JSON, it stops being JSON there, and this was expected
   pub stop : IsUtf8 text → document text ≡ None → NamesJsonStop text (record { line = line; column = column }) expected
 
 -- The answer to a text, for an area that held `old` and holds `new`.
@@ -61,7 +61,7 @@ pub record AnswersJson (style : Style) (limit : ℕ) (text old new : List ℕ) (
   -- the layout is longer than the limit, and what is within the limit is in the area
   pub past_limit : status ≡ 4 → (bytes : List ℕ) × IsFormatted style text bytes × (limit < length bytes)
       × Holds (take limit bytes) old new written
-  -- the bytes are no JSON text, and where that is seen
+  -- the bytes are not a JSON text, and where that is seen
   pub not_json : status ≡ 5 → IsNoJson text × IsJsonFault text old new written line column
   -- at the other statuses there is no place
   pub no_place : ¬ (status ≡ 5) → (line ≡ 0) × (column ≡ 0)

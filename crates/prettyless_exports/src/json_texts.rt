@@ -68,7 +68,7 @@ fn refused(
 /// of several one. The style is compact.
 ///
 /// `limit` is the greatest length of the layout in bytes, or 0 for none. The answer is the number of a status, which says
-/// what `out` and `written` are, and of bytes that are no JSON text where that is seen: `line` and `column` are from 1, and
+/// what `out` and `written` are, and of bytes that are not a JSON text where that is seen: `line` and `column` are from 1, and
 /// a column is a character.
 pub fn json_layout(
     alloc: Global,

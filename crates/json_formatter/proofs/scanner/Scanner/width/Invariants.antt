@@ -12,4 +12,4 @@ invariant-loop-width l = record {
 }
 
 abbrev pub decreases-loop-width : goal.decreases-loop-width
-decreases-loop-width l = length l.self.lexemes
+decreases-loop-width l = length l.self.pieces
