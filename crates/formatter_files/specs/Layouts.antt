@@ -17,3 +17,9 @@ WritesLayout IsLayout old new (Ok LaidOut) = (layout : List ℕ) × IsLayout lay
 WritesLayout IsLayout old new (Ok Refused) = Keeps old new
 WritesLayout IsLayout old new (Err (Text e)) = Keeps old new
 WritesLayout IsLayout old new (Err (Writer e)) = ⊤
+
+-- the same where parts of a text are laid out each on its own: those that are not refused are written, whether one is refused or not
+abbrev pub WritesParts : (List ℕ → Type 0) → Option (List ℕ) → Option (List ℕ) → Result Verdict LayoutError → Type 0
+WritesParts IsLayout old new (Ok LaidOut) = (layout : List ℕ) × IsLayout layout × Appends old new layout
+WritesParts IsLayout old new (Ok Refused) = ⊤
+WritesParts IsLayout old new (Err e) = ⊤

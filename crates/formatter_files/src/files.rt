@@ -93,7 +93,7 @@ fn print<R: AllocGlobal + Eprint + Print, F: Formatter>(
     formatter: &F,
     source: SourceText<'_>,
 ) -> Result<Ending, Failure> {
-    match formatter.write_layout(rt, source.name, source.bytes, &mut Output(rt)) {
+    match formatter.write_parts(rt, source.name, source.bytes, &mut Output(rt)) {
         Ok(Verdict::LaidOut) => Ok(Ending::Good),
         Ok(Verdict::Refused) => Ok(Ending::Refused),
         Err(LayoutError::Text(error)) => Err(Failure::File(error)),

@@ -1,6 +1,6 @@
 //! What a program that formats files makes of a text.
 ghost use Rattle.std.specs.Prelude.{ℕ, List, ⊤};
-ghost use Rattle.formatter_files.specs.Layouts.{WritesLayout};
+ghost use Rattle.formatter_files.specs.Layouts.{WritesLayout, WritesParts};
 
 use editor_config::Settings;
 use std::io;
@@ -62,4 +62,17 @@ pub trait Formatter: Drop {
         writer: &mut W,
     ) -> Result<Verdict, LayoutError>
         ensures { WritesLayout (IsLayout self.now bytes.now) (W.contents writer.old) (W.contents writer.new) result };
+
+    /// The same, but of bytes whose parts are laid out each on its own, as lines are, the parts are written that are not refused.
+    fn write_parts<R: AllocGlobal + Eprint, W: Write>(
+        &self,
+        rt: &R,
+        name: &str,
+        bytes: &[u8],
+        writer: &mut W,
+    ) -> Result<Verdict, LayoutError>
+        ensures { WritesParts (IsLayout self.now bytes.now) (W.contents writer.old) (W.contents writer.new) result }
+    {
+        self.write_layout(rt, name, bytes, writer)
+    }
 }

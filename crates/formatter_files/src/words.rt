@@ -131,7 +131,7 @@ pub fn has_flag(matches: &ArgMatches<'_>, name: &str) -> bool
 }
 
 /// Whether the option is given a value.
-fn is_given(matches: &ArgMatches<'_>, name: &str) -> bool
+pub fn is_given(matches: &ArgMatches<'_>, name: &str) -> bool
     ensures { result ≡ is_some (first_of name.now (rows_of (found_of matches.now))) }
 {
     matches.get_str(name).is_some()

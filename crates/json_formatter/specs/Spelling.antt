@@ -1,5 +1,6 @@
 -- How the line ends and the indents of a layout are spelled.
-use Rattle.std.specs.Prelude.{ℕ, zero, suc, ◌-◌, ◌/◌, ◌%◌, ◌==◌, Bool, false, true, List, [], ◌∷◌, ◌++◌, length, replicate, if◌then◌else◌}
+use Rattle.std.specs.Prelude.{ℕ, zero, suc, ◌-◌, ◌/◌, ◌%◌, ◌^◌, ◌==◌, Bool, false, true, List, [], ◌∷◌, ◌++◌, length, replicate}
+use Rattle.std.specs.Prelude.{if◌then◌else◌}
 use Rattle.json.specs.Ascii as ascii
 use Rattle.json_lexemes.specs.SpacedLexemes.{Spaced, after_gap, line_feeds, put_together, spaced_lexemes}
 use Rattle.prettyless_model.specs.Spaces.{spaces}
@@ -20,6 +21,12 @@ abbrev pub ends_in_crlf : LineEnd → List ℕ → Bool
 ends_in_crlf line_end.OfText text = begins_crlf false text
 ends_in_crlf line_end.Lf text = false
 ends_in_crlf line_end.CrLf text = true
+
+-- the style for the lines of a text that has a JSON text on each: none is broken, and all end as its first line does, or as the style
+-- says
+abbrev pub line_style : Style → List ℕ → Style
+line_style style text =
+    record style { width = 2 ^ 64 - 1; line_end = if ends_in_crlf style.line_end text then line_end.CrLf else line_end.Lf }
 
 -- how a style spells the layout of a text
 abbrev pub spelling_of : Style → List ℕ → Spelling

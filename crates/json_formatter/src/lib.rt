@@ -21,4 +21,5 @@ mod window;
 pub use error::FormatError;
 pub use laws::law_layout;
 pub use layout::{format, formatted, render};
+pub use spelling::line_style;
 pub use style::{Fill, LineEnd, Style};

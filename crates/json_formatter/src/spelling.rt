@@ -2,7 +2,8 @@
 ghost use Rattle.std.specs.Prelude.{◌≡◌, ◌++◌, true, false, if◌then◌else◌};
 ghost use Rattle.json_formatter.specs.Gaps.{gap_bytes};
 ghost use Rattle.json_formatter.specs.Kept.{spelled_bytes};
-ghost use Rattle.json_formatter.specs.Spelling.{begins_crlf, ends_in_crlf, columns_spelled, line_end_bytes, respelled, spelling_of};
+ghost use Rattle.json_formatter.specs.Spelling.{begins_crlf, columns_spelled, ends_in_crlf, line_end_bytes, line_style, respelled};
+ghost use Rattle.json_formatter.specs.Spelling.{spelling_of};
 
 use crate::gaps::Gap;
 use crate::style::{LineEnd, Style};
@@ -26,11 +27,11 @@ pub(crate) enum Spelled {
 }
 
 // Whether the first line end of a text is CR LF.
-fn begins_crlf(text: &str) -> bool
+fn begins_crlf(text: &[u8]) -> bool
     ensures { result ≡ begins_crlf false text.now }
 {
     let mut after_return = false;
-    for byte in text.as_bytes() {
+    for byte in text {
         if *byte == b'\n' {
             return after_return;
         }
@@ -40,7 +41,7 @@ fn begins_crlf(text: &str) -> bool
 }
 
 // Whether the lines of a layout of a text end in CR LF.
-fn ends_in_crlf(line_end: LineEnd, text: &str) -> bool
+fn ends_in_crlf(line_end: LineEnd, text: &[u8]) -> bool
     ensures { result ≡ ends_in_crlf line_end text.now }
 {
     match line_end {
@@ -57,13 +58,29 @@ fn tab_of(style: Style) -> usize
     if style.tabs { style.indent as usize } else { 0 }
 }
 
+/// The style for the lines of a text that has a JSON text on each: each is laid out on one line, and ends as the first line of the
+/// text does, or as the style says.
+pub fn line_style(style: Style, text: &[u8]) -> Style
+    ensures { result ≡ line_style style text.now }
+{
+    Style {
+        width: usize::MAX,
+        line_end: if ends_in_crlf(style.line_end, text) {
+            LineEnd::CrLf
+        } else {
+            LineEnd::Lf
+        },
+        ..style
+    }
+}
+
 impl Spelling {
     /// How a style spells the layout of this text.
     pub(crate) fn of(style: Style, text: &str) -> Spelling
         ensures { result ≡ spelling_of style text.now }
     {
         Spelling {
-            crlf: ends_in_crlf(style.line_end, text),
+            crlf: ends_in_crlf(style.line_end, text.as_bytes()),
             tab: tab_of(style),
         }
     }

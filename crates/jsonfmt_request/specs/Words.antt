@@ -1,9 +1,10 @@
 -- What the words of `jsonfmt` ask for, by what `clap` reads in them.
-use Rattle.std.specs.Prelude.{◌≡◌, ◌⊎◌, ℕ, Bool, true, false, List, [], codes, Option, Some, None, Result, MatchResult, if◌then◌else◌}
+use Rattle.std.specs.Prelude.{◌≡◌, ◌⊎◌, ◌||◌, ℕ, Bool, true, false, List, [], codes, Option, Some, None, is_some, Result, MatchResult}
+use Rattle.std.specs.Prelude.{if◌then◌else◌}
 use Rattle.std.specs.Str.{bytes_eq}
 use Rattle.clap.specs.Words.{App, HasKind, Kinds, Row, Rule, Text, fault_of, first_of, kind_of, matches_of, new_rule, one_of, with_rule}
 use Rattle.clap.specs.declared.error.Error.{Error}
-use Rattle.clap.specs.declared.error.kind.ErrorKind.TheVariants.{ValueValidation}
+use Rattle.clap.specs.declared.error.kind.ErrorKind.TheVariants.{ArgumentConflict, ValueValidation}
 use Rattle.formatter_files.specs.Words.{HasNumber, IsNumberUpTo, IsTask, IsWidth, flag, has_flag, most_32, number_rule, program}
 use Rattle.formatter_files.specs.Words.{with_files, with_letter, with_width}
 use Rattle.json_formatter.specs.declared.style.Fill.{Fill}
@@ -29,10 +30,10 @@ indent_rule = with_letter 105 (word_rule (codes "indent"))
 abbrev pub jsonfmt : App
 jsonfmt =
     with_files
-    (with_rule (with_rule (with_rule (with_rule (with_rule (with_rule (with_width (program (codes "jsonfmt"))) indent_rule)
+    (with_rule (with_rule (with_rule (with_rule (with_rule (with_rule (with_rule (with_width (program (codes "jsonfmt"))) indent_rule)
     (word_rule (codes "fill")))
     (flag (codes "keep-blank-lines"))) (word_rule (codes "line-ending"))) (flag (codes "compact")))
-    (number_rule (codes "depth") most_levels))
+    (number_rule (codes "depth") most_levels)) (flag (codes "lines")))
 
 -- what `clap` reads in the words, of which the first names the program
 unfoldable pub matches : List Text → List Row
@@ -107,6 +108,22 @@ fills_asked (Some word) = fills_named word
 abbrev pub fill_asked : List Row → Option Fill
 fill_asked rows = fills_asked (first_of (codes "fill") rows)
 
+-- ---- lines that are texts
+
+-- each line is to be a text of its own
+abbrev pub has_lines : List Row → Bool
+has_lines rows = has_flag (codes "lines") rows
+
+-- it is said how a text is broken into lines
+abbrev pub breaks_texts : List Row → Bool
+breaks_texts rows =
+    is_some (first_of (codes "width") rows) || is_some (first_of (codes "indent") rows) || is_some (first_of (codes "fill") rows)
+    || has_flag (codes "keep-blank-lines") rows
+
+-- A text that is a line is not broken: the two are not asked for together.
+abbrev pub IsAtOdds : List Row → Type 0
+IsAtOdds rows = (has_lines rows ≡ true) × (breaks_texts rows ≡ true)
+
 -- ---- all
 
 -- How files are to be laid out.
@@ -122,12 +139,17 @@ pub record AsksStyle (rows : List Row) (style : Style) : Type 0 where
 -- What is asked for.
 pub record AsksForJson (rows : List Row) (asked : Request) : Type 0 where
   pub style : AsksStyle rows asked.style
+  pub lines : asked.lines ≡ has_lines rows
+  pub unbroken : asked.lines ≡ true → breaks_texts rows ≡ false
   pub task : IsTask rows asked.task
 
--- no indent, no line end, or nothing that fills lines is asked for
+-- a word names no indent, no line end, or nothing that fills lines
+abbrev pub NamesNothing : List Row → Type 0
+NamesNothing rows = AsksNoIndent (indent_word rows) ⊎ ((line_end_of rows ≡ None) ⊎ (fill_asked rows ≡ None))
+
+-- there is such a word, or options are given that are at odds
 abbrev pub AsksForNothing : List Row → Error → Type 0
-AsksForNothing rows e =
-    (AsksNoIndent (indent_word rows) ⊎ ((line_end_of rows ≡ None) ⊎ (fill_asked rows ≡ None))) × (kind_of e ≡ ValueValidation)
+AsksForNothing rows e = (NamesNothing rows × (kind_of e ≡ ValueValidation)) ⊎ (IsAtOdds rows × (kind_of e ≡ ArgumentConflict))
 
 -- an `Ok` comes only where `clap` has no error for the words, and an `Err` is one of those, or nothing is asked for
 abbrev pub AnswersWords : {T : Type 0} → List Text → Result T Error → Type 0

@@ -4,7 +4,7 @@ ghost use Rattle.clap.specs.Words.{app_of, found_of, kind_of, rows_of};
 ghost use Rattle.formatter_files.specs.Words.{HasWidth};
 ghost use Rattle.jsonfmt_request.specs.Words.{AnswersWords, AsksForJson, AsksForNothing, HasDepth, jsonfmt, matches};
 
-use crate::words::{depth, fill, indent, lettered, line_end, word};
+use crate::words::{breaking, depth, fill, indent, lettered, line_end, word};
 use clap::error::ErrorKind;
 use clap::{ArgMatches, Command, Error};
 use formatter_files::files::Task;
@@ -20,6 +20,8 @@ use std::convert::AsStr;
 pub struct Request<'w> {
     /// How files are laid out.
     pub style: Style,
+    /// Whether each line of a file is a text of its own, laid out on one line.
+    pub lines: bool,
     /// What is to become of the layouts, and of which files.
     pub task: Task<'w>,
 }
@@ -27,13 +29,13 @@ pub struct Request<'w> {
 // How deep lists may be in one another at most.
 const MOST_LEVELS: u64 = 100_000;
 
-// What is said of a wrong indent, of a wrong line end, and of a wrong word for what fills lines.
+// What is said after a wrong indent, a wrong line end, and a wrong word for what fills lines.
 const NO_INDENT: &str =
-    "invalid value for '--indent <N|tab>': neither a number of columns up to 4294967295 nor `tab`";
+    "'--indent <N|tab>': neither a number of columns up to 4294967295 nor `tab`";
 
-const NO_LINE_END: &str = "invalid value for '--line-ending <lf|crlf>': neither `lf` nor `crlf`";
+const NO_LINE_END: &str = "'--line-ending <lf|crlf>'\n  [possible values: lf, crlf]";
 
-const NO_FILL: &str = "invalid value for '--fill <numbers|all|none>': none of the three";
+const NO_FILL: &str = "'--fill <numbers|all|none>'\n  [possible values: numbers, all, none]";
 
 /// The command `jsonfmt`.
 fn command<'w>(alloc: Global) -> Result<Command<'w>, AllocError>
@@ -64,15 +66,27 @@ fn command<'w>(alloc: Global) -> Result<Command<'w>, AllocError>
     let with_compact = with_line_end.arg(compact)?;
     let levels = "How deep arrays and objects may be in one another, up to 100000 [default: 1000]";
     let depth = number(alloc, "depth", MOST_LEVELS, levels);
-    with_files(alloc, with_compact.arg(depth)?)
+    let with_depth = with_compact.arg(depth)?;
+    let help = "Lay out each line of a file, as a text of its own, on one line";
+    let lines = flag(alloc, "lines", help);
+    with_files(alloc, with_depth.arg(lines)?)
 }
 
-/// The error for a wrong word.
-fn refuse(alloc: Global, message: &str) -> Result<Error, AllocError>
+/// The error for a wrong word, after which is said why it is none.
+fn refuse(alloc: Global, word: Option<&str>, why: &str) -> Result<Error, AllocError>
     ensures { IfOk result (λ error. kind_of error ≡ ErrorKind.ValueValidation) }
 {
-    let mut command = command(alloc)?;
-    command.error(ErrorKind::ValueValidation, message)
+    let word = word.unwrap_or("");
+    let message = format!(in alloc; "invalid value '{word}' for {why}")?;
+    command(alloc)?.error(ErrorKind::ValueValidation, message.as_str())
+}
+
+/// The error for an option that says how a text is broken into lines, where each text is a line.
+fn refuse_breaking(alloc: Global, option: &str) -> Result<Error, AllocError>
+    ensures { IfOk result (λ error. kind_of error ≡ ErrorKind.ArgumentConflict) }
+{
+    let message = format!(in alloc; "the argument '--lines' cannot be used with '{option}'")?;
+    command(alloc)?.error(ErrorKind::ArgumentConflict, message.as_str())
 }
 
 /// What is asked for by what was read in the words.
@@ -84,14 +98,20 @@ fn asked<'w>(alloc: Global, matches: &ArgMatches<'w>) -> Result<Request<'w>, Err
         ⊎ AsksForNothing (rows_of (found_of matches.now)) error) }
 {
     let Some(indent) = indent(matches) else {
-        return Err(refuse(alloc, NO_INDENT)?);
+        return Err(refuse(alloc, matches.get_str("indent"), NO_INDENT)?);
     };
     let Some(line_end) = line_end(matches) else {
-        return Err(refuse(alloc, NO_LINE_END)?);
+        return Err(refuse(alloc, matches.get_str("line-ending"), NO_LINE_END)?);
     };
     let Some(fill) = fill(matches) else {
-        return Err(refuse(alloc, NO_FILL)?);
+        return Err(refuse(alloc, matches.get_str("fill"), NO_FILL)?);
     };
+    let lines = has_flag(matches, "lines");
+    if let Some(option) = breaking(matches) {
+        if lines {
+            return Err(refuse_breaking(alloc, option)?);
+        }
+    }
     Ok(Request {
         style: Style {
             width: width(matches),
@@ -103,15 +123,16 @@ fn asked<'w>(alloc: Global, matches: &ArgMatches<'w>) -> Result<Request<'w>, Err
             compact: has_flag(matches, "compact"),
             depth: depth(matches),
         },
+        lines,
         task: task(alloc, matches)?,
     })
 }
 
 /// What the words ask for, of which the first names the program: what `clap` reads in them by the options of `jsonfmt`.
 ///
-/// Its error where they are not such words, where they ask for help or the version, and where the indent is neither a number nor
-/// `tab`, the line end neither `lf` nor `crlf`, or what fills lines neither `numbers`, `all` nor `none`: it has the text for the
-/// user.
+/// Its error where they are not such words, where they ask for help or the version, where the indent is neither a number nor `tab`,
+/// the line end neither `lf` nor `crlf`, or what fills lines neither `numbers`, `all` nor `none`, and where it is said how a text is
+/// broken while each is a line: it has the text for the user.
 pub fn requested<'w, S: AsStr>(alloc: Global, words: &'w [S]) -> Result<Request<'w>, Error>
     ensures ok { IfOk result (AsksForJson (matches (map S.text words.entry.now))) }
     ensures err { AnswersWords (map S.text words.entry.now) result }

@@ -1,11 +1,12 @@
 //! What single words of `jsonfmt` ask for.
-ghost use Rattle.std.specs.Prelude.{◌≡◌, MatchOption, false};
+ghost use Rattle.std.specs.Prelude.{◌≡◌, MatchOption, false, is_some};
 ghost use Rattle.clap.specs.Words.{found_of, rows_of, rule_of};
 ghost use Rattle.formatter_files.specs.Words.{with_letter};
-ghost use Rattle.jsonfmt_request.specs.Words.{AsksIndent, AsksNoIndent, HasDepth, IsDepth, fill_asked, fills_named};
+ghost use Rattle.jsonfmt_request.specs.Words.{AsksIndent, AsksNoIndent, HasDepth, IsDepth, breaks_texts, fill_asked, fills_named};
 ghost use Rattle.jsonfmt_request.specs.Words.{indent_word, line_end_named, line_end_of, word_rule};
 
 use clap::{Arg, ArgMatches};
+use formatter_files::words::{has_flag, is_given};
 use json_formatter::{Fill, LineEnd};
 use std::alloc::Global;
 
@@ -128,4 +129,21 @@ pub(crate) fn depth(matches: &ArgMatches<'_>) -> usize
     ensures { IsDepth (rows_of (found_of matches.now)) result }
 {
     matches.get_one("depth").unwrap_or(1000)
+}
+
+/// The first option that is given and says how a text is broken into lines, as messages name it.
+pub(crate) fn breaking(matches: &ArgMatches<'_>) -> Option<&'static str>
+    ensures { is_some result ≡ breaks_texts (rows_of (found_of matches.now)) }
+{
+    if is_given(matches, "width") {
+        Some("--width <N>")
+    } else if is_given(matches, "indent") {
+        Some("--indent <N|tab>")
+    } else if is_given(matches, "fill") {
+        Some("--fill <numbers|all|none>")
+    } else if has_flag(matches, "keep-blank-lines") {
+        Some("--keep-blank-lines")
+    } else {
+        None
+    }
 }

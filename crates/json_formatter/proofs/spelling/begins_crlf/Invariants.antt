@@ -4,4 +4,4 @@ use Rattle.json_formatter.proofs.spelling.begins_crlf.Given as goal
 
 -- the bytes that are left say it
 abbrev pub invariant-loop-byte : goal.invariant-loop-byte
-invariant-loop-byte l = begins_crlf false l.byte-items ≡ begins_crlf l.after_return (drop l.byte-index l.byte-items)
+invariant-loop-byte l = begins_crlf false l.text ≡ begins_crlf l.after_return (drop l.byte-index l.text)

@@ -21,5 +21,7 @@ returns c =
     let with_blank_lines = c.in_ok-with_blank_lines.ensures.shape (search rules) ∙ ap₂ with_rule with_fill blank_lines in
     let with_line_end = c.in_ok-with_line_end.ensures.shape (search rules) ∙ ap₂ with_rule with_blank_lines line_end in
     let with_compact = c.in_ok-with_compact.ensures.shape (search rules) ∙ ap₂ with_rule with_line_end compact in
-    let with_depth = c.in_ok-arg.ensures.shape (search rules) ∙ ap₂ with_rule with_compact depth in
-    IfOk-weaker c.with_files.result _ _ (λ made h. h ∙ ap with_files with_depth) c.with_files.ensures
+    let lines : rule_of c.flag-lines.result ≡ flag (codes "lines") = search rules in
+    let with_depth = c.in_ok-with_depth.ensures.shape (search rules) ∙ ap₂ with_rule with_compact depth in
+    let with_lines = c.in_ok-arg.ensures.shape (search rules) ∙ ap₂ with_rule with_depth lines in
+    IfOk-weaker c.with_files.result _ _ (λ made h. h ∙ ap with_files with_lines) c.with_files.ensures
