@@ -15,8 +15,8 @@ import tempfile
 import built
 import c_library
 import version
+from version import FORMATTERS
 
-FORMATTERS = tuple(version.WORDS)
 COMPLETION = """# Completions of {name} for bash: the options of its --help, and else files.
 _{name}() {{
     COMPREPLY=()

@@ -16,14 +16,14 @@ def place(path, before, times=1):
     return Place(path, re.compile(f"({before}){NUMBER}", re.M), times)
 
 
-# The programs' own `--version` lines, by the crates whose sources have their words.
-WORDS = {"jsonfmt": "jsonfmt_request", "tomlfmt": "tomlfmt"}
+# The programs, each of a crate of its name whose `request.rt` has its `--version` line.
+FORMATTERS = ("jsonfmt", "tomlfmt")
 PLACES = [
-    *(place(f"crates/{crate}/src/request.rt", f'"{name}", "') for name, crate in WORDS.items()),
+    *(place(f"crates/{name}/src/request.rt", f'"{name}", "') for name in FORMATTERS),
     place("crates/tomlfmt/edits/asks_for_jsonfmt.edit", r'"(?:json|toml)fmt", "', 2),
     place("programs/jsonfmt/words.cases", 'jsonfmt (?=[^"]*" \\.\\.$)', 2),
     place("programs/tomlfmt/files.cases", 'tomlfmt (?=[^"]*" \\.\\.$)'),
-    *(place(f"docs/{name}.1", f'^\\.TH \\w+ 1 "" "{name} ') for name in WORDS),
+    *(place(f"docs/{name}.1", f'^\\.TH \\w+ 1 "" "{name} ') for name in FORMATTERS),
     place("bindings/c/prettyless.h", '^#define PL_VERSION "'),
     place("bindings/python/yezhgulo/__init__.py", '^__version__ = "'),
     place("bindings/rust/Cargo.toml", '^version = "'),

@@ -230,7 +230,7 @@ static void test_choices(void)
     pl_free(&doc);
 }
 
-static void test_remarks(void)
+static void test_comments(void)
 {
     pl_doc doc = PL_DOC_INIT;
     pl_open(&doc);
@@ -516,7 +516,7 @@ int main(void)
     test_groups();
     test_indents();
     test_choices();
-    test_remarks();
+    test_comments();
     test_programs();
     test_areas();
     test_long_layouts();

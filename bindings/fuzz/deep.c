@@ -116,7 +116,7 @@ static const Input inputs[] = {
     {"ten million line ends", NOTHING, TEXT("\n"), 10 * MILLION, NOTHING, 0, IS_LAID_OR_REFUSED, TOML},
     {"a TOML string of ten million bytes", TEXT("a=\""), TEXT("a"), 10 * MILLION, TEXT("\""), 1, IS_LAID_OR_REFUSED,
      TOML},
-    {"a remark of ten million bytes", TEXT("#"), TEXT("a"), 10 * MILLION, NOTHING, 0, IS_LAID_OR_REFUSED, TOML},
+    {"a comment of ten million bytes", TEXT("#"), TEXT("a"), 10 * MILLION, NOTHING, 0, IS_LAID_OR_REFUSED, TOML},
 };
 
 /* Its layout is longer than the limit at each indent but 0. */

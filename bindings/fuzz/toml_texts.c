@@ -31,7 +31,7 @@ static const char *const scalars[] = {
 static const char *const keys[] = {"a", "name", "a-long_key", "1234", "\"\"", "\"\xc3\xa9 b\"", "'a.b'", "true"};
 static const char *const blanks[] = {"", "", "", "", " ", "\t", "   "};
 static const char *const line_ends[] = {"\n", "\n", "\n", "\r\n"};
-static const char *const remarks[] = {"#", "# a few words", "#\xc3\xa9 \t", "##[a]=\"", "#                         a"};
+static const char *const comments[] = {"#", "# a few words", "#\xc3\xa9 \t", "##[a]=\"", "#                         a"};
 static const char *const parts[] = {
     "[", "]", "[[", "]]",     "{",      "}", ",", ".",  "=",    "\"",   "\"\"\"", "'", "'''",
     "#", "-", "_",  "1979-05-27", "07:32:00", "\n", "\r", "\\u", "\xff", "\xc3", "\x01",
@@ -46,7 +46,7 @@ static void put_line_end(Random *random, Bytes *text)
 {
     put_blank(random, text);
     if (once_in(random, 4)) {
-        put_any_of(random, remarks, COUNT_OF(remarks), text);
+        put_any_of(random, comments, COUNT_OF(comments), text);
     }
     put_any_of(random, line_ends, COUNT_OF(line_ends), text);
 }

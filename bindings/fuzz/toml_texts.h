@@ -5,7 +5,7 @@
 #include "bytes.h"
 #include "random.h"
 
-/* Writes a TOML text of a few lines, with blanks and remarks anywhere. */
+/* Writes a TOML text of a few lines, with blanks and comments anywhere. */
 void write_toml(Random *random, Bytes *text);
 
 /* Changes some bytes of it. It may still be a TOML text after that. */

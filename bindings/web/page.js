@@ -33,7 +33,7 @@ const NAMES = { json: "Text (JSON)", toml: "Text (TOML)", documents: "Document (
 const PROMISES = {
     documents: "a layout is the one that a definition names",
     json: "a layout has the same value as your text, each lexeme spelled as it was",
-    toml: "a layout has the same statements as your text, each lexeme and remark spelled as it was",
+    toml: "a layout has the same statements as your text, each lexeme and comment spelled as it was",
 };
 
 const at = (id) => document.getElementById(id);

@@ -212,8 +212,8 @@ fn suffixes() {
         &(start + pair(",", "b")).group(),
         &[(4, "a, b // why"), (3, "a, // why\nb")],
     );
-    let remark = (Doc::text(" // ") + Doc::as_string(1)).as_line_suffix();
-    shows(&(Doc::text("a;") + remark), &[(80, "a; // 1")]);
+    let comment = (Doc::text(" // ") + Doc::as_string(1)).as_line_suffix();
+    shows(&(Doc::text("a;") + comment), &[(80, "a; // 1")]);
     shows(
         &(Doc::text("a;") + Doc::weak_space() + Doc::line_suffix("// why")),
         &[(80, "a; // why")],

@@ -13,7 +13,7 @@ LISTS = '{"name":"Ada","list":[1,22,333],"empty":{}}'
 NUMBERS = json.dumps({"numbers": list(range(40)), "nested": [[1, 2], [3, [4.5, -6e7]]], "empty": [[], {}]})
 STRANGE = '{"größe":"日本語 \\ud83d\\ude00 😀","escapes":"\\"\\\\\\n","deep":' + "[" * 60 + "]" * 60 + "}"
 MEMBERS = '{"a":{"b":{"c":[{"d":1},{"e":"f"}]}}}'
-TABLES = """title="a" # remark
+TABLES = """title="a" # comment
 [a.b]
 list=[1,2,# two
 3]
@@ -21,14 +21,14 @@ when=2026-11-28T20:00:00Z
 [[c]]
 inline={x=1,"y z"=[true,"ü"]}
 """
-REMARKS = "# a remark alone\n\n\n\n# another"
+COMMENTS = "# a comment alone\n\n\n\n# another"
 STRINGS = 'x = """\ntwo lines\n"""\ny = \'one\' # line'
 SPACED = '{"a":\n\n1,\n\n\n"b": [2,\n\n3]\n\n}'
 # The deepest that is laid out.
 DEEP = "[" * 128 + "]" * 128
 TEXTS = {
     "json": [LISTS, NUMBERS, STRANGE, MEMBERS, SPACED, DEEP, "null", '"a"', "[]", " [ 1 , 2 ]\n\n"],
-    "toml": [TABLES, REMARKS, STRINGS, f"a = {DEEP}", "a.b . c = [[1, 2], [3, 4], []]"],
+    "toml": [TABLES, COMMENTS, STRINGS, f"a = {DEEP}", "a.b . c = [[1, 2], [3, 4], []]"],
 }
 FAULTS = {
     "json": ["[1, 2", '{"a":tru}', "[1 2]", '{"größe"\t:\n\t"日本" x}', '["a\\q"]', "\n\n  ]", "[" * 129],

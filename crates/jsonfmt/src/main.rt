@@ -14,25 +14,25 @@ ghost use Rattle.jsonfmt.specs.Lines.{LaysLinesOf, WritesLines};
 
 mod lines;
 mod refusal;
+mod request;
+mod words;
 
 use crate::lines::lay_lines;
 use crate::refusal::{Source, refuse, refuse_depth};
+use crate::request::requested;
+use crate::words::TAB;
 use editor_config::Settings;
 use formatter_files::arguments::words;
 use formatter_files::ending::Ending;
 use formatter_files::files::{ending_after, ending_of, lay_out_all};
 use formatter_files::formatter::{Formatter, LayoutError, Verdict};
 use json_formatter::{FormatError, LineEnd, Style, format, line_style};
-use jsonfmt_request::request::requested;
 use std::fs::Files;
 use std::io;
 use std::io::Write;
 use std::process::ExitCode;
 use std::rt::Env;
 use std::str::from_utf8;
-
-// How many columns a tab counts where nothing says it, as for the option.
-const TAB_COLUMNS: u32 = 4;
 
 // What ends lines: what an option asks for, or else what settings say.
 fn line_end(asked: LineEnd, said: Option<editor_config::LineEnd>) -> LineEnd {
@@ -145,7 +145,7 @@ impl Formatter for Json {
     fn with_settings(&self, settings: Settings) -> Json {
         let Json { style, lines } = self;
         let has_tabs = settings.uses_tabs();
-        let indent = if has_tabs { TAB_COLUMNS } else { style.indent };
+        let indent = if has_tabs { TAB.columns } else { style.indent };
         let style = Style {
             width: settings.width().unwrap_or(style.width),
             indent: settings.indent().unwrap_or(indent),

@@ -26,7 +26,7 @@ pub struct Request<'w> {
 fn command<'w>(alloc: Global) -> Result<Command<'w>, AllocError>
     ensures { IfOk result (λ made. app_of made ≡ tomlfmt) }
 {
-    let about = "Lays TOML texts out, and changes no key, value or remark";
+    let about = "Lays TOML texts out, and changes no key, value or comment";
     let members = "How far in the members of a broken array are [default: 2]";
     let command = with_numbers(alloc, program(alloc, "tomlfmt", "0.4.0", about), members)?;
     let no_align = flag(alloc, "no-align", "Align no comments at the ends of lines");

@@ -3,11 +3,11 @@ use Rattle.std.specs.Prelude.{IfErr, MatchResult}
 use Rattle.std.proofs.lemmas.Result.{IfOk-weaker, err_from_is_err_and}
 use Rattle.clap.specs.Words.{App, HasKind, Kinds, Row, app_of, fault_of, is_simple, is_simple_and_free, matches_of}
 use Rattle.clap.specs.declared.error.Error.{Error}
-use Rattle.jsonfmt_request.specs.Words.{AnswersWords, AsksForJson, AsksForNothing, faults, jsonfmt, matches, most_levels}
-use Rattle.jsonfmt_request.specs.declared.request.Request.{Request}
+use Rattle.jsonfmt.specs.Words.{AnswersWords, AsksForJson, AsksForNothing, faults, jsonfmt, matches, most_levels}
+use Rattle.jsonfmt.specs.declared.request.Request.{Request}
 use Rattle.formatter_files.specs.Words.{most_64, number_rule}
 use Rattle.formatter_files.proofs.Given.{IsOnly, IsSimpleProgram, number_given, only_one}
-use Rattle.jsonfmt_request.proofs.request.requested.Goals as goal
+use Rattle.jsonfmt.proofs.request.requested.Goals as goal
 
 simple : is_simple jsonfmt ≡ true
 simple = refl

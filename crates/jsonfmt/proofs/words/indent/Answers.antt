@@ -2,8 +2,8 @@ use Rattle.std.proofs.Common.{ap, ◌∙◌, sym, subst, refl, codes, false, Opt
 use Rattle.std.specs.Prelude.{MatchOption}
 use Rattle.clap.proofs.WalkLemmas.{first_value-rows}
 use Rattle.clap.specs.Words.{Text, found_of}
-use Rattle.jsonfmt_request.specs.Words.{AsksIndent, AsksNoIndent}
-use Rattle.jsonfmt_request.proofs.words.indent.Goals as goal
+use Rattle.jsonfmt.specs.Words.{AsksIndent, AsksNoIndent}
+use Rattle.jsonfmt.proofs.words.indent.Goals as goal
 
 pub returns-in-Some : goal.returns-in-Some
 returns-in-Some c =

@@ -2,8 +2,8 @@ use Rattle.std.proofs.Common.{rules, ap, ap₂, ◌∙◌, ◌≡◌, codes}
 use Rattle.std.proofs.lemmas.Result.{IfOk-weaker}
 use Rattle.clap.specs.Words.{rule_of, with_rule}
 use Rattle.formatter_files.specs.Words.{flag, number_rule, with_files, with_letter, with_width}
-use Rattle.jsonfmt_request.specs.Words.{indent_rule, most_levels, word_rule}
-use Rattle.jsonfmt_request.proofs.request.command.Goals as goal
+use Rattle.jsonfmt.specs.Words.{indent_rule, most_levels, word_rule}
+use Rattle.jsonfmt.proofs.request.command.Goals as goal
 
 pub returns : goal.returns
 returns c =

@@ -2,9 +2,9 @@ use Rattle.std.proofs.Common.{◌∙◌, arith, codes}
 use Rattle.std.specs.Str.Parse.{ExplainsUnsignedError, HasUnsignedDigitsIfOk, ParsesUnsigned}
 use Rattle.clap.proofs.WalkLemmas.{one_text-rows}
 use Rattle.clap.specs.Words.{found_of, one_of, rows_of}
-use Rattle.jsonfmt_request.specs.Words.{most_levels}
+use Rattle.jsonfmt.specs.Words.{most_levels}
 use Rattle.formatter_files.proofs.Read.{read}
-use Rattle.jsonfmt_request.proofs.words.depth.Goals as goal
+use Rattle.jsonfmt.proofs.words.depth.Goals as goal
 
 pub returns : goal.returns
 returns c =

@@ -12,7 +12,7 @@ use Rattle.json_formatter.specs.declared.style.Fill.TheVariants as fills
 use Rattle.json_formatter.specs.declared.style.LineEnd.{LineEnd}
 use Rattle.json_formatter.specs.declared.style.LineEnd.TheVariants.{OfText, Lf, CrLf}
 use Rattle.json_formatter.specs.declared.style.Style.{Style}
-use Rattle.jsonfmt_request.specs.declared.request.Request.{Request}
+use Rattle.jsonfmt.specs.declared.request.Request.{Request}
 
 -- how deep lists may be in one another at most
 abbrev pub most_levels : ℕ

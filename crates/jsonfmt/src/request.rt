@@ -2,7 +2,7 @@
 ghost use Rattle.std.specs.Prelude.{◌≡◌, ◌⊎◌, IfErr, IfOk, map};
 ghost use Rattle.clap.specs.Words.{app_of, found_of, kind_of, rows_of};
 ghost use Rattle.formatter_files.specs.Words.{HasWidth};
-ghost use Rattle.jsonfmt_request.specs.Words.{AnswersWords, AsksForJson, AsksForNothing, HasDepth, jsonfmt, matches};
+ghost use Rattle.jsonfmt.specs.Words.{AnswersWords, AsksForJson, AsksForNothing, HasDepth, jsonfmt, matches};
 
 use crate::words::{breaking, depth, fill, indent, lettered, line_end, word};
 use clap::error::ErrorKind;

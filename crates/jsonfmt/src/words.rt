@@ -2,8 +2,8 @@
 ghost use Rattle.std.specs.Prelude.{◌≡◌, MatchOption, false, is_some};
 ghost use Rattle.clap.specs.Words.{found_of, rows_of, rule_of};
 ghost use Rattle.formatter_files.specs.Words.{with_letter};
-ghost use Rattle.jsonfmt_request.specs.Words.{AsksIndent, AsksNoIndent, HasDepth, IsDepth, breaks_texts, fill_asked, fills_named};
-ghost use Rattle.jsonfmt_request.specs.Words.{indent_word, line_end_named, line_end_of, word_rule};
+ghost use Rattle.jsonfmt.specs.Words.{AsksIndent, AsksNoIndent, HasDepth, IsDepth, breaks_texts, fill_asked, fills_named};
+ghost use Rattle.jsonfmt.specs.Words.{indent_word, line_end_named, line_end_of, word_rule};
 
 use clap::{Arg, ArgMatches};
 use formatter_files::words::{has_flag, is_given};
@@ -23,8 +23,8 @@ const TWO_SPACES: Indentation = Indentation {
     tabs: false,
 };
 
-/// A tab, which counts 4 columns.
-const TAB: Indentation = Indentation {
+/// A tab, which counts 4 columns where nothing else is said.
+pub(crate) const TAB: Indentation = Indentation {
     columns: 4,
     tabs: true,
 };

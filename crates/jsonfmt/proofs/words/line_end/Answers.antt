@@ -1,8 +1,8 @@
 use Rattle.std.proofs.Common.{ap, ◌∙◌, sym, codes, option_map}
 use Rattle.clap.proofs.WalkLemmas.{first_value-rows}
 use Rattle.clap.specs.Words.{found_of}
-use Rattle.jsonfmt_request.specs.Words.{line_end_asked}
-use Rattle.jsonfmt_request.proofs.words.line_end.Goals as goal
+use Rattle.jsonfmt.specs.Words.{line_end_asked}
+use Rattle.jsonfmt.proofs.words.line_end.Goals as goal
 
 pub returns-in-Some : goal.returns-in-Some
 returns-in-Some c =
