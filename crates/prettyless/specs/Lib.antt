@@ -30,6 +30,7 @@ pub use Rattle.prettyless_model.specs.Levels
 pub use Rattle.prettyless_model.specs.Metrics
 pub use Rattle.prettyless_laws.specs.Reading
 pub use Rattle.prettyless_model.specs.Choice
+pub use Rattle.prettyless_model.specs.Indent
 pub use Rattle.prettyless_model.specs.Look
 pub use Rattle.prettyless_model.specs.Spelling
 pub use Rattle.prettyless_model.specs.Shows

@@ -12,8 +12,7 @@ use Rattle.prettyless_model.specs.declared.choice.NestingTest.{NestingTest}
 use Rattle.prettyless_doc.specs.Counted as counted
 use Rattle.prettyless_doc.specs.Lines.{line, line_, space}
 use Rattle.prettyless_doc.specs.Tree.{Tree, Nil, Text, TextWithLen, MultilineText, WeakSpace, HardLine, WeakLine, LineSuffix}
-use Rattle.prettyless_doc.specs.Tree.{BreakOrFlat, Union, PartialUnion, OnColumn}
-use Rattle.prettyless_doc.specs.Tree.{OnNesting}
+use Rattle.prettyless_doc.specs.Tree.{DedentToRoot, Align, BreakOrFlat, Union, PartialUnion, OnColumn, OnNesting}
 use Rattle.prettyless_build.specs.Built.{align, append, append_to, between, dedent_to_root, enclose, flatten, group}
 use Rattle.prettyless_build.specs.Built.{nest, nest_by, softline, softline_}
 use Rattle.prettyless_alloc.specs.Lists.{change_all_but_last}
@@ -135,10 +134,12 @@ group_shows _ items h = h
 
 pub align_shows : (x : Tree) (items : List Item) → shows x items → shows (align x) items
 align_shows Nil items h = h
+align_shows (Align x) items h = h
 align_shows _ items h = h
 
 pub dedent_to_root_shows : (x : Tree) (items : List Item) → shows x items → shows (dedent_to_root x) items
 dedent_to_root_shows Nil items h = h
+dedent_to_root_shows (DedentToRoot x) items h = h
 dedent_to_root_shows _ items h = h
 
 pub flatten_shows : (x : Tree) (items : List Item) → shows x items → shows (flatten x) items

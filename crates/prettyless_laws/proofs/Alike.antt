@@ -2,11 +2,11 @@
 use Rattle.std.proofs.Common.{◌≡◌, ℕ, length, subst, ◌+◌, ◌-◌, ◌^◌, List, [], ◌∷◌, refl, ap, ap₂, ◌∙◌, min, arith, Bool, true, false, not}
 use Rattle.std.proofs.Common.{◌&&◌, ◌||◌, ◌==◌, nat_le, if◌then◌else◌}
 use Rattle.prettyless_model.specs.declared.options.RenderOptions.{RenderOptions}
-use Rattle.prettyless_model.specs.Tree.{Tree, Fail, Text, TextWithLen, MultilineText, WeakSpace, HardLine, WeakLine, Append, Nest}
-use Rattle.prettyless_model.specs.Tree.{DedentToRoot, Align, ExpandParent, Flatten, BreakOrFlat, Group, Union, PartialUnion, OnColumn}
-use Rattle.prettyless_model.specs.Tree.{OnNesting}
-use Rattle.prettyless_model.specs.Column.{saturating_add, prospective, commit, blank, nested, padding_fits}
-use Rattle.prettyless_model.specs.Choice.{column_holds, nesting_holds}
+use Rattle.prettyless_model.specs.Tree.{Tree, Fail, Text, TextWithLen, MultilineText, WeakSpace, HardLine, WeakLine, Append, Indented}
+use Rattle.prettyless_model.specs.Tree.{ExpandParent, Flatten, BreakOrFlat, Group, Union, PartialUnion, Chosen}
+use Rattle.prettyless_model.specs.Column.{saturating_add, prospective, commit, blank, padding_fits}
+use Rattle.prettyless_model.specs.Indent.{Indenting, Align, indent_by}
+use Rattle.prettyless_model.specs.Choice.{choice_holds}
 use Rattle.prettyless_model.specs.Look.{Look, Answers, GoesOn, answer_of, by_mode, look, look_end, look_text, look_then}
 use Rattle.prettyless_model.specs.Metrics.{metrics}
 use Rattle.prettyless_model.specs.Layout.{State, Entry, payload_fits, some_pending, rest_fits, probe, flushed, is_suppressed}
@@ -40,6 +40,11 @@ alike_equal c e h = record {
 
 pub prospective_alike : (c e : Column) → Alike c e → prospective c ≡ prospective e
 prospective_alike c e h = ap₂ saturating_add h.place h.padding
+
+-- a node sets the same indent at both
+pub indent_alike : (how : Indenting) (i : ℕ) (c e : Column) → Alike c e → indent_by how i c ≡ indent_by how i e
+indent_alike Align i c e h = prospective_alike c e h
+indent_alike _ i c e h = refl
 
 abbrev committed_at : ℕ → ℕ → Column
 committed_at w n = record { position = saturating_add n w; indent = 0; padding = 0; fresh = false }
@@ -128,11 +133,9 @@ look_alike w WeakLine i m c e p h =
 look_alike w (Append l r) i m c e p h =
     looks-then (look w l i m c p) (look w l i m e p) (λ u q. look w r i m u q) (λ u q. look w r i m u q)
     (look_alike w l i m c e p h) (λ u v q k. look_alike w r i m u v q k)
-look_alike w (Nest k d) i m c e p h = look_alike w d (nested i k) m c e p h
-look_alike w (DedentToRoot d) i m c e p h = look_alike w d 0 m c e p h
-look_alike w (Align d) i m c e p h =
-    subst (λ (n : ℕ). AlikeLooks (look w d (prospective c) m c p) (look w d n m e p)) (prospective_alike c e h)
-    (look_alike w d (prospective c) m c e p h)
+look_alike w (Indented how d) i m c e p h =
+    subst (λ (n : ℕ). AlikeLooks (look w d (indent_by how i c) m c p) (look w d n m e p)) (indent_alike how i c e h)
+    (look_alike w d (indent_by how i c) m c e p h)
 look_alike w ExpandParent i Break c e p h = (h, refl)
 look_alike w ExpandParent i Flat c e p h = refl
 look_alike w (Flatten d) i m c e p h = look_alike w d i Flat c e p h
@@ -143,15 +146,10 @@ look_alike w (Union l r) i Break c e p h = look_alike w r i Break c e p h
 look_alike w (Union l r) i Flat c e p h = look_alike w l i Flat c e p h
 look_alike w (PartialUnion l r) i Break c e p h = look_alike w r i Break c e p h
 look_alike w (PartialUnion l r) i Flat c e p h = look_alike w l i Flat c e p h
-look_alike w (OnColumn test y n) i m c e p h =
-    looks-either (column_holds test (prospective c) i) (column_holds test (prospective e) i) (look w y i m c p) (look w n i m c p)
+look_alike w (Chosen test y n) i m c e p h =
+    looks-either (choice_holds test (prospective c) i) (choice_holds test (prospective e) i) (look w y i m c p) (look w n i m c p)
     (look w y i m e p) (look w n i m e p)
-    (ap (λ (x : ℕ). column_holds test x i) (prospective_alike c e h))
-    (look_alike w y i m c e p h)
-    (look_alike w n i m c e p h)
-look_alike w (OnNesting test y n) i m c e p h =
-    looks-either (nesting_holds test i) (nesting_holds test i) (look w y i m c p) (look w n i m c p) (look w y i m e p)
-    (look w n i m e p) refl
+    (ap (λ (x : ℕ). choice_holds test x i) (prospective_alike c e h))
     (look_alike w y i m c e p h)
     (look_alike w n i m c e p h)
 -- every other node leaves the column as it is

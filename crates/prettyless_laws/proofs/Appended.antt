@@ -2,10 +2,10 @@
 -- same result at a regrouped document.
 use Rattle.std.proofs.Common.{◌≡◌, ℕ, List, ◌∷◌, refl, ap, sym, ◌∙◌, Bool}
 use Rattle.prettyless_model.specs.declared.options.RenderOptions.{RenderOptions}
-use Rattle.prettyless_model.specs.Tree.{Tree, Append, Nest, DedentToRoot, Align, Flatten, BreakOrFlat, Group, Union, PartialUnion, OnColumn}
-use Rattle.prettyless_model.specs.Tree.{OnNesting}
-use Rattle.prettyless_model.specs.Choice.{column_holds, nesting_holds}
-use Rattle.prettyless_model.specs.Column.{nested, prospective}
+use Rattle.prettyless_model.specs.Tree.{Tree, Append, Indented, Flatten, BreakOrFlat, Group, Union, PartialUnion, Chosen}
+use Rattle.prettyless_model.specs.Choice.{choice_holds}
+use Rattle.prettyless_model.specs.Column.{prospective}
+use Rattle.prettyless_model.specs.Indent.{indent_by}
 use Rattle.prettyless_model.specs.Look.{Look, answer_of, look, look_then}
 use Rattle.prettyless_model.specs.Layout.{State, Entry, Breaks, and_then, lay, entry, rest_fits}
 use Rattle.prettyless_model.specs.declared.column.Column.{Column}
@@ -67,9 +67,7 @@ right_looks (Append l r) w i m c p =
     appended_looks w (right l) (right r) i m c p
     ∙ look-same (look w (right l) i m c p) (look w l i m c p) (λ e q. look w (right r) i m e q) (λ e q. look w r i m e q)
     (right_looks l w i m c p) (λ e q. right_looks r w i m e q)
-right_looks (Nest k d) w i m c p = right_looks d w (nested i k) m c p
-right_looks (DedentToRoot d) w i m c p = right_looks d w 0 m c p
-right_looks (Align d) w i m c p = right_looks d w (prospective c) m c p
+right_looks (Indented how d) w i m c p = right_looks d w (indent_by how i c) m c p
 right_looks (Flatten d) w i m c p = right_looks d w i Flat c p
 right_looks (BreakOrFlat b f) w i Break c p = right_looks b w i Break c p
 right_looks (BreakOrFlat b f) w i Flat c p = right_looks f w i Flat c p
@@ -78,11 +76,8 @@ right_looks (Union l r) w i Break c p = right_looks r w i Break c p
 right_looks (Union l r) w i Flat c p = right_looks l w i Flat c p
 right_looks (PartialUnion l r) w i Break c p = right_looks r w i Break c p
 right_looks (PartialUnion l r) w i Flat c p = right_looks l w i Flat c p
-right_looks (OnColumn test y n) w i m c p =
-    look-either (column_holds test (prospective c) i) (look w (right y) i m c p) (look w (right n) i m c p) (look w y i m c p)
+right_looks (Chosen test y n) w i m c p =
+    look-either (choice_holds test (prospective c) i) (look w (right y) i m c p) (look w (right n) i m c p) (look w y i m c p)
     (look w n i m c p)
-    (right_looks y w i m c p) (right_looks n w i m c p)
-right_looks (OnNesting test y n) w i m c p =
-    look-either (nesting_holds test i) (look w (right y) i m c p) (look w (right n) i m c p) (look w y i m c p) (look w n i m c p)
     (right_looks y w i m c p) (right_looks n w i m c p)
 right_looks _ w i m c p = refl

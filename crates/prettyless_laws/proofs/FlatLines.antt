@@ -6,10 +6,11 @@ use Rattle.std.proofs.lemmas.Bool.{and_parts, leb-true}
 use Rattle.std.proofs.lemmas.List.Elements.{All-nil, All-cons, All-append}
 use Rattle.prettyless_model.specs.Spaces.{spaces}
 use Rattle.prettyless_model.specs.declared.options.RenderOptions.{RenderOptions}
-use Rattle.prettyless_model.specs.Tree.{Tree, Nil, Text, TextWithLen, WeakSpace, WeakLine, Append, LineSuffix, Nest, DedentToRoot, Align}
-use Rattle.prettyless_model.specs.Tree.{Flatten, BreakOrFlat, Group, Union, PartialUnion, OnColumn, OnNesting}
-use Rattle.prettyless_model.specs.Column.{commit, blank, gap, prospective, nested}
-use Rattle.prettyless_model.specs.Choice.{column_holds, nesting_holds}
+use Rattle.prettyless_model.specs.Tree.{Tree, Nil, Text, TextWithLen, WeakSpace, WeakLine, Append, LineSuffix, Indented, Flatten}
+use Rattle.prettyless_model.specs.Tree.{BreakOrFlat, Group, Union, PartialUnion, Chosen}
+use Rattle.prettyless_model.specs.Column.{commit, blank, gap, prospective}
+use Rattle.prettyless_model.specs.Indent.{indent_by}
+use Rattle.prettyless_model.specs.Choice.{choice_holds}
 use Rattle.prettyless_model.specs.Look.{Answers, GoesOn, answer_of, look, look_text}
 use Rattle.prettyless_model.specs.Layout.{State, Outcome, Done, Entry, Breaks, after_bytes, and_then, lay, lay_text, entry, probe}
 use Rattle.prettyless_model.specs.Layout.{rest_fits, some_pending, in_trial, lay_ending, next_indent, break_with, breaks}
@@ -266,13 +267,9 @@ flows o (LineSuffix d) i next st h = record {
   on_one_line = All-nil (IsOnOneLine o.width);
   plain = λ k. All-nil IsNoAlternative;
 }
-flows o (Nest n d) i next st h =
-    flows_as d (λ j. nested j n) (λ brk j rest u e. refl) (λ brk j rest. refl) (λ ds k. k) (λ k. k) (flows o d (nested i n) next st h)
-flows o (DedentToRoot d) i next st h =
-    flows_as d (λ j. 0) (λ brk j rest u e. refl) (λ brk j rest. refl) (λ ds k. k) (λ k. k) (flows o d 0 next st h)
-flows o (Align d) i next st h =
-    flows_as d (λ j. prospective st.column) (λ brk j rest u e. ap (λ (c : Column). lay o brk d (prospective c) Flat rest u) e)
-    (λ brk j rest. refl) (λ ds k. k) (λ k. k) (flows o d (prospective st.column) next st h)
+flows o (Indented how d) i next st h =
+    flows_as d (λ j. indent_by how j st.column) (λ brk j rest u e. ap (λ (c : Column). lay o brk d (indent_by how j c) Flat rest u) e)
+    (λ brk j rest. refl) (λ ds k. k) (λ k. k) (flows o d (indent_by how i st.column) next st h)
 flows o (Flatten d) i next st h =
     flows_as d (λ j. j) (λ brk j rest u e. refl) (λ brk j rest. refl) (λ ds k. k) (λ k. k) (flows o d i next st h)
 flows o (BreakOrFlat b f) i next st h =
@@ -283,13 +280,10 @@ flows o (Union l r) i next st h =
     flows_as l (λ j. j) (λ brk j rest u e. refl) (λ brk j rest. refl) (λ ds k. k) (λ k. k.0) (flows o l i next st h)
 flows o (PartialUnion l r) i next st h =
     flows_as l (λ j. j) (λ brk j rest u e. refl) (λ brk j rest. refl) (λ ds k. k) (λ k. k.0) (flows o l i next st h)
-flows o (OnColumn test y n) i next st h =
-    flows_choice y n (column_holds test (prospective st.column) i)
-    (λ brk rest u e. ap (λ (c : Column). if column_holds test (prospective c) i then lay o brk y i Flat rest u
+flows o (Chosen test y n) i next st h =
+    flows_choice y n (choice_holds test (prospective st.column) i)
+    (λ brk rest u e. ap (λ (c : Column). if choice_holds test (prospective c) i then lay o brk y i Flat rest u
     else lay o brk n i Flat rest u) e) (λ brk rest. refl) (λ ds k. k) (λ k. k) h (flows o y i next st) (flows o n i next st)
-flows o (OnNesting test y n) i next st h =
-    flows_choice y n (nesting_holds test i) (λ brk rest u e. refl) (λ brk rest. refl) (λ ds k. k) (λ k. k) h (flows o y i next st)
-    (flows o n i next st)
 -- the probe of a flat line answers no to every other node
 flows o _ i next st h = absurd (cc)
 

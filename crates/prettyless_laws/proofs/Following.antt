@@ -2,10 +2,11 @@
 use Rattle.std.proofs.Common.{◌≡◌, ℕ, zero, suc, List, [], ◌∷◌, ◌++◌, refl, ap, ◌∙◌, Bool, if◌then◌else◌}
 use Rattle.prettyless_model.specs.Spaces.{spaces}
 use Rattle.prettyless_model.specs.declared.options.RenderOptions.{RenderOptions}
-use Rattle.prettyless_model.specs.Tree.{Tree, HardLine, WeakLine, Append, Nest, DedentToRoot, Align, Flatten, BreakOrFlat, Group, Union}
-use Rattle.prettyless_model.specs.Tree.{PartialUnion, OnColumn, OnNesting}
-use Rattle.prettyless_model.specs.Column.{gap, prospective, nested}
-use Rattle.prettyless_model.specs.Choice.{column_holds, nesting_holds}
+use Rattle.prettyless_model.specs.Tree.{Tree, HardLine, WeakLine, Append, Indented, Flatten, BreakOrFlat, Group, Union, PartialUnion}
+use Rattle.prettyless_model.specs.Tree.{Chosen}
+use Rattle.prettyless_model.specs.Column.{gap, prospective}
+use Rattle.prettyless_model.specs.Indent.{indent_by}
+use Rattle.prettyless_model.specs.Choice.{choice_holds}
 use Rattle.prettyless_model.specs.Look.{by_mode, look}
 use Rattle.prettyless_model.specs.Layout.{State, Outcome, Done, Failed, Entry, Breaks, after_bytes, and_then, lay, lay_each, lay_ending}
 use Rattle.prettyless_model.specs.Layout.{some_pending, probe, accept, in_trial, is_suppressed, flushed, entry, entries, rest_fits}
@@ -65,9 +66,7 @@ lay_alike o brk k (Append l r) i m a b st h =
     (λ u. lay o brk r i m b u)
     (lay_alike o brk k l i m (entry i r ∷ a) (entry i r ∷ b) st (alike_after i r r a b (λ w c p. refl) h))
     (λ u. lay_alike o brk k r i m a b u h)
-lay_alike o brk k (Nest n d) i m a b st h = lay_alike o brk k d (nested i n) m a b st h
-lay_alike o brk k (DedentToRoot d) i m a b st h = lay_alike o brk k d 0 m a b st h
-lay_alike o brk k (Align d) i m a b st h = lay_alike o brk k d (prospective st.column) m a b st h
+lay_alike o brk k (Indented how d) i m a b st h = lay_alike o brk k d (indent_by how i st.column) m a b st h
 lay_alike o brk k (Flatten d) i m a b st h = lay_alike o brk k d i Flat a b st h
 lay_alike o brk k (BreakOrFlat x y) i Break a b st h = lay_alike o brk k x i Break a b st h
 lay_alike o brk k (BreakOrFlat x y) i Flat a b st h = lay_alike o brk k y i Flat a b st h
@@ -83,12 +82,9 @@ lay_alike o brk k (PartialUnion x y) i Break a b st h =
     (lay o brk x i Break b st) (lay o brk y i Break b st)
     (probe_alike o x i Break a b st h) (lay_alike o brk k x i Break a b st h) (lay_alike o brk k y i Break a b st h)
 lay_alike o brk k (PartialUnion x y) i Flat a b st h = lay_alike o brk k x i Flat a b st h
-lay_alike o brk k (OnColumn test x y) i m a b st h =
-    same-either (column_holds test (prospective st.column) i) (lay o brk x i m a st) (lay o brk y i m a st) (lay o brk x i m b st)
+lay_alike o brk k (Chosen test x y) i m a b st h =
+    same-either (choice_holds test (prospective st.column) i) (lay o brk x i m a st) (lay o brk y i m a st) (lay o brk x i m b st)
     (lay o brk y i m b st)
-    (lay_alike o brk k x i m a b st h) (lay_alike o brk k y i m a b st h)
-lay_alike o brk k (OnNesting test x y) i m a b st h =
-    same-either (nesting_holds test i) (lay o brk x i m a st) (lay o brk y i m a st) (lay o brk x i m b st) (lay o brk y i m b st)
     (lay_alike o brk k x i m a b st h) (lay_alike o brk k y i m a b st h)
 lay_alike o brk k _ i m a b st h = refl
 

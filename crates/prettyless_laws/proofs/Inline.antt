@@ -4,9 +4,9 @@ use Rattle.std.proofs.Common.{false, ◌&&◌, nat_le, if◌then◌else◌}
 use Rattle.std.proofs.lemmas.Bool.{le-leb, leb-true, lt-leb}
 use Rattle.prettyless_model.specs.Spaces.{spaces}
 use Rattle.prettyless_model.specs.declared.options.RenderOptions.{RenderOptions}
-use Rattle.prettyless_model.specs.Tree.{Tree, Nil, Text, TextWithLen, Append, Nest, DedentToRoot, Align, Flatten, BreakOrFlat, Group, Union}
-use Rattle.prettyless_model.specs.Tree.{PartialUnion}
-use Rattle.prettyless_model.specs.Column.{commit, gap, nested, prospective, saturating_add}
+use Rattle.prettyless_model.specs.Tree.{Tree, Nil, Text, TextWithLen, Append, Indented, Flatten, BreakOrFlat, Group, Union, PartialUnion}
+use Rattle.prettyless_model.specs.Column.{commit, gap, prospective, saturating_add}
+use Rattle.prettyless_model.specs.Indent.{indent_by}
 use Rattle.prettyless_model.specs.Look.{Look, Answers, GoesOn, answer_of, look, look_text, look_then}
 use Rattle.prettyless_model.specs.Layout.{State, Done, Entry, Breaks, and_then, entry, lay, lay_text, probe, rest_fits, some_pending}
 use Rattle.prettyless_model.specs.declared.column.Column.{Column}
@@ -42,9 +42,7 @@ measured : (d : Tree) → IsMeasured (flat_columns d) (flat_bytes d)
 measured (Text s) = measured-text s
 measured (TextWithLen w s) = measured-columns w s
 measured (Append l r) = measured-append (flat_bytes l) (flat_bytes r) (measured l) (measured r)
-measured (Nest k d) = measured d
-measured (DedentToRoot d) = measured d
-measured (Align d) = measured d
+measured (Indented how d) = measured d
 measured (Flatten d) = measured d
 measured (BreakOrFlat b f) = measured f
 measured (Group d) = measured d
@@ -157,9 +155,7 @@ lay_inline o brk (Append l r) i rest st h =
     (lay_inline o brk l i (entry i r ∷ rest) st h.0)
     (λ u. lay_inline o brk r i rest u h.1)
     ∙ texts_joined o (flat_bytes l) (flat_bytes r) st (measured l) (measured r)
-lay_inline o brk (Nest k d) i rest st h = lay_inline o brk d (nested i k) rest st h
-lay_inline o brk (DedentToRoot d) i rest st h = lay_inline o brk d 0 rest st h
-lay_inline o brk (Align d) i rest st h = lay_inline o brk d (prospective st.column) rest st h
+lay_inline o brk (Indented how d) i rest st h = lay_inline o brk d (indent_by how i st.column) rest st h
 lay_inline o brk (Flatten d) i rest st h = lay_inline o brk d i rest st h
 lay_inline o brk (BreakOrFlat b f) i rest st h = lay_inline o brk f i rest st h
 lay_inline o brk (Group d) i rest st h = lay_inline o brk d i rest st h
@@ -177,9 +173,7 @@ look_inline width (Append l r) i c p h =
     (look_inline width l i c p h.0)
     (λ e q. look_inline width r i e q h.1)
     ∙ looks_joined width (flat_bytes l) (flat_bytes r) c p (measured l) (measured r)
-look_inline width (Nest k d) i c p h = look_inline width d (nested i k) c p h
-look_inline width (DedentToRoot d) i c p h = look_inline width d 0 c p h
-look_inline width (Align d) i c p h = look_inline width d (prospective c) c p h
+look_inline width (Indented how d) i c p h = look_inline width d (indent_by how i c) c p h
 look_inline width (Flatten d) i c p h = look_inline width d i c p h
 look_inline width (BreakOrFlat b f) i c p h = look_inline width f i c p h
 look_inline width (Group d) i c p h = look_inline width d i c p h

@@ -3,10 +3,11 @@ use Rattle.std.proofs.Common.{◌≡◌, ℕ, zero, suc, ◌+◌, arith, List, [
 use Rattle.std.proofs.Common.{if◌then◌else◌, inl, inr}
 use Rattle.prettyless_model.specs.declared.options.RenderOptions.{RenderOptions}
 use Rattle.prettyless_model.specs.Spaces.{spaces}
-use Rattle.prettyless_model.specs.Tree.{Tree, size, Fail, MultilineText, HardLine, Append, Nest, DedentToRoot, Align, BreakOrFlat, Group}
-use Rattle.prettyless_model.specs.Tree.{Union, PartialUnion, OnColumn, OnNesting}
-use Rattle.prettyless_model.specs.Column.{gap, nested, prospective}
-use Rattle.prettyless_model.specs.Choice.{column_holds, nesting_holds}
+use Rattle.prettyless_model.specs.Tree.{Tree, size, Fail, MultilineText, HardLine, Append, Indented, BreakOrFlat, Group, Union}
+use Rattle.prettyless_model.specs.Tree.{PartialUnion, Chosen}
+use Rattle.prettyless_model.specs.Column.{gap, prospective}
+use Rattle.prettyless_model.specs.Indent.{indent_by}
+use Rattle.prettyless_model.specs.Choice.{choice_holds}
 use Rattle.prettyless_model.specs.Look.{Look, answer_of, look}
 use Rattle.prettyless_model.specs.Layout.{State, Outcome, Done, Whole, Entry, Breaks, after_bytes, and_then, bytes_of, break_with, breaks}
 use Rattle.prettyless_model.specs.Layout.{end_with, finish, lay_ending, layout, layout_by, next_indent, rest_fits}
@@ -50,18 +51,13 @@ hidden w (Append l r) i c p f g (inr h) =
     ∙ answer-each (look w l i Break c p) (λ e q. answer_of (look w r i Break e q) f) (λ e q. answer_of (look w r i Break e q) g)
     (λ e q. hidden w r i e q f g h)
     ∙ sym (answer-then (look w l i Break c p) (λ e q. look w r i Break e q) g)
-hidden w (Nest k d) i c p f g h = hidden w d (nested i k) c p f g h
-hidden w (DedentToRoot d) i c p f g h = hidden w d 0 c p f g h
-hidden w (Align d) i c p f g h = hidden w d (prospective c) c p f g h
+hidden w (Indented how d) i c p f g h = hidden w d (indent_by how i c) c p f g h
 hidden w (BreakOrFlat b x) i c p f g h = hidden w b i c p f g h
 hidden w (Group d) i c p f g h = hidden w d i c p f g h
 hidden w (Union l r) i c p f g h = hidden w r i c p f g h
 hidden w (PartialUnion l r) i c p f g h = hidden w r i c p f g h
-hidden w (OnColumn test y n) i c p f g h =
-    either-answer (column_holds test (prospective c) i) (look w y i Break c p) (look w n i Break c p) f g (hidden w y i c p f g h.0)
-    (hidden w n i c p f g h.1)
-hidden w (OnNesting test y n) i c p f g h =
-    either-answer (nesting_holds test i) (look w y i Break c p) (look w n i Break c p) f g (hidden w y i c p f g h.0)
+hidden w (Chosen test y n) i c p f g h =
+    either-answer (choice_holds test (prospective c) i) (look w y i Break c p) (look w n i Break c p) f g (hidden w y i c p f g h.0)
     (hidden w n i c p f g h.1)
 hidden w _ i c p f g h = absurd h
 

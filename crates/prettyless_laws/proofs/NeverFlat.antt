@@ -1,9 +1,10 @@
 -- Documents that no flat line holds: a probe in Flat answers no, and their groups are broken.
 use Rattle.std.proofs.Common.{◌≡◌, ℕ, List, [], ◌∷◌, length, refl, ◌∙◌, Bool, true, false, not, ◌&&◌, if◌then◌else◌, nat_le, inl, inr}
-use Rattle.prettyless_model.specs.Tree.{Tree, Fail, Text, TextWithLen, MultilineText, WeakLine, HardLine, Append, Nest, DedentToRoot, Align}
-use Rattle.prettyless_model.specs.Tree.{ExpandParent, Flatten, BreakOrFlat, Group, Union, PartialUnion, OnColumn, OnNesting}
-use Rattle.prettyless_model.specs.Column.{commit, nested, prospective}
-use Rattle.prettyless_model.specs.Choice.{column_holds, nesting_holds}
+use Rattle.prettyless_model.specs.Tree.{Tree, Fail, Text, TextWithLen, MultilineText, WeakLine, HardLine, Append, Indented, ExpandParent}
+use Rattle.prettyless_model.specs.Tree.{Flatten, BreakOrFlat, Group, Union, PartialUnion, Chosen}
+use Rattle.prettyless_model.specs.Column.{commit, prospective}
+use Rattle.prettyless_model.specs.Indent.{indent_by}
+use Rattle.prettyless_model.specs.Choice.{choice_holds}
 use Rattle.prettyless_model.specs.Look.{Look, Answers, GoesOn, answer_of, look, look_text, look_then}
 use Rattle.prettyless_model.specs.Layout.{rest_fits, some_pending}
 use Rattle.prettyless_model.specs.declared.column.Column.{Column}
@@ -38,19 +39,15 @@ flat_no w (TextWithLen n s) i c p = text_no w n s c p
 flat_no w WeakLine i c p = either-no (λ e q. false) (c.fresh && not p) (GoesOn c p) (Answers false) refl refl
 flat_no w (Append l r) i c p =
     then-no (look w l i Flat c p) (λ e q. look w r i Flat e q) (λ e q. false) (flat_no w l i c p) (λ e q. flat_no w r i e q)
-flat_no w (Nest k d) i c p = flat_no w d (nested i k) c p
-flat_no w (DedentToRoot d) i c p = flat_no w d 0 c p
-flat_no w (Align d) i c p = flat_no w d (prospective c) c p
+flat_no w (Indented how d) i c p = flat_no w d (indent_by how i c) c p
 flat_no w (Flatten d) i c p = flat_no w d i c p
 flat_no w (BreakOrFlat b f) i c p = flat_no w f i c p
 flat_no w (Group d) i c p = flat_no w d i c p
 flat_no w (Union l r) i c p = flat_no w l i c p
 flat_no w (PartialUnion l r) i c p = flat_no w l i c p
-flat_no w (OnColumn test y n) i c p =
-    either-no (λ e q. false) (column_holds test (prospective c) i) (look w y i Flat c p) (look w n i Flat c p) (flat_no w y i c p)
+flat_no w (Chosen test y n) i c p =
+    either-no (λ e q. false) (choice_holds test (prospective c) i) (look w y i Flat c p) (look w n i Flat c p) (flat_no w y i c p)
     (flat_no w n i c p)
-flat_no w (OnNesting test y n) i c p =
-    either-no (λ e q. false) (nesting_holds test i) (look w y i Flat c p) (look w n i Flat c p) (flat_no w y i c p) (flat_no w n i c p)
 flat_no w _ i c p = refl
 
 -- at such a document it is no, whatever would come next
@@ -65,19 +62,14 @@ never_flat w (Append l r) i c p next (inl h) =
     ∙ never_flat w l i c p (λ e q. answer_of (look w r i Flat e q) next) h
 never_flat w (Append l r) i c p next (inr h) =
     then-no (look w l i Flat c p) (λ e q. look w r i Flat e q) next (flat_no w l i c p) (λ e q. never_flat w r i e q next h)
-never_flat w (Nest k d) i c p next h = never_flat w d (nested i k) c p next h
-never_flat w (DedentToRoot d) i c p next h = never_flat w d 0 c p next h
-never_flat w (Align d) i c p next h = never_flat w d (prospective c) c p next h
+never_flat w (Indented how d) i c p next h = never_flat w d (indent_by how i c) c p next h
 never_flat w (Flatten d) i c p next h = never_flat w d i c p next h
 never_flat w (BreakOrFlat b f) i c p next h = never_flat w f i c p next h
 never_flat w (Group d) i c p next h = never_flat w d i c p next h
 never_flat w (Union l r) i c p next h = never_flat w l i c p next h
 never_flat w (PartialUnion l r) i c p next h = never_flat w l i c p next h
-never_flat w (OnColumn test y n) i c p next h =
-    either-no next (column_holds test (prospective c) i) (look w y i Flat c p) (look w n i Flat c p) (never_flat w y i c p next h.0)
-    (never_flat w n i c p next h.1)
-never_flat w (OnNesting test y n) i c p next h =
-    either-no next (nesting_holds test i) (look w y i Flat c p) (look w n i Flat c p) (never_flat w y i c p next h.0)
+never_flat w (Chosen test y n) i c p next h =
+    either-no next (choice_holds test (prospective c) i) (look w y i Flat c p) (look w n i Flat c p) (never_flat w y i c p next h.0)
     (never_flat w n i c p next h.1)
 never_flat w _ i c p next h = absurd h
 

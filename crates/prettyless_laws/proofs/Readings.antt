@@ -3,9 +3,9 @@ use Rattle.std.proofs.Common.{◌≡◌, ℕ, List, [], ◌∷◌, ◌++◌, len
 use Rattle.std.proofs.Common.{if◌then◌else◌}
 use Rattle.prettyless_model.specs.declared.options.RenderOptions.{RenderOptions}
 use Rattle.prettyless_model.specs.Tree.{Tree, Nil, Fail, Text, TextWithLen, MultilineText, WeakSpace, HardLine, WeakLine, Append}
-use Rattle.prettyless_model.specs.Tree.{LineSuffix, Nest, DedentToRoot, Align, ExpandParent, Flatten, BreakOrFlat, Group, Union}
-use Rattle.prettyless_model.specs.Tree.{PartialUnion, OnColumn, OnNesting}
-use Rattle.prettyless_model.specs.Column.{commit, nested, prospective}
+use Rattle.prettyless_model.specs.Tree.{LineSuffix, Indented, ExpandParent, Flatten, BreakOrFlat, Group, Union, PartialUnion, Chosen}
+use Rattle.prettyless_model.specs.Column.{commit}
+use Rattle.prettyless_model.specs.Indent.{indent_by}
 use Rattle.prettyless_model.specs.Look.{Answers, GoesOn, answer_of, look, look_text}
 use Rattle.prettyless_model.specs.Layout.{State, Entry, probe, rest_fits, some_pending}
 use Rattle.prettyless_model.specs.declared.column.Column.{Column}
@@ -51,9 +51,7 @@ look_reads w (Append l r) i m c p more h =
     ∙ look_reads w l i m c p (reading r m ++ more) h.0
     ∙ ap (fits w c p) (sym (append_assoc (reading l m) (reading r m) more))
 look_reads w (LineSuffix d) i m c p more h = refl
-look_reads w (Nest k d) i m c p more h = look_reads w d (nested i k) m c p more h
-look_reads w (DedentToRoot d) i m c p more h = look_reads w d 0 m c p more h
-look_reads w (Align d) i m c p more h = look_reads w d (prospective c) m c p more h
+look_reads w (Indented how d) i m c p more h = look_reads w d (indent_by how i c) m c p more h
 look_reads w ExpandParent i Break c p more h = refl
 look_reads w ExpandParent i Flat c p more h = refl
 look_reads w (Flatten d) i m c p more h = look_reads w d i Flat c p more h
@@ -64,8 +62,7 @@ look_reads w (Union l r) i Break c p more h = look_reads w r i Break c p more h.
 look_reads w (Union l r) i Flat c p more h = look_reads w l i Flat c p more h.0
 look_reads w (PartialUnion l r) i Break c p more h = look_reads w r i Break c p more h.1
 look_reads w (PartialUnion l r) i Flat c p more h = look_reads w l i Flat c p more h.0
-look_reads w (OnColumn test y n) i m c p more h = absurd h
-look_reads w (OnNesting test y n) i m c p more h = absurd h
+look_reads w (Chosen test y n) i m c p more h = absurd h
 
 rest_reads : (w : ℕ) (rest : List Entry) (c : Column) (p : Bool) → ArePlain rest → rest_fits w rest c p ≡ fits w c p (rest_atoms rest)
 rest_reads w [] c p h = refl

@@ -6,10 +6,11 @@ use Rattle.prettyless_model.specs.Spaces.{spaces}
 use Rattle.prettyless_model.specs.declared.options.RenderOptions.{RenderOptions}
 use Rattle.prettyless_model.specs.declared.options.IndentationPolicy.{IndentationPolicy}
 use Rattle.prettyless_model.specs.declared.options.IndentationPolicy.TheVariants.{Eager, Deferred}
-use Rattle.prettyless_model.specs.Tree.{Tree, Text, TextWithLen, HardLine, WeakLine, Append, LineSuffix, Nest, DedentToRoot, Align, Flatten}
-use Rattle.prettyless_model.specs.Tree.{BreakOrFlat, Group, Union, PartialUnion, OnColumn, OnNesting, size}
-use Rattle.prettyless_model.specs.Column.{gap, prospective, padding_fits, nested}
-use Rattle.prettyless_model.specs.Choice.{column_holds, nesting_holds}
+use Rattle.prettyless_model.specs.Tree.{Tree, Text, TextWithLen, HardLine, WeakLine, Append, LineSuffix, Indented, Flatten, BreakOrFlat}
+use Rattle.prettyless_model.specs.Tree.{Group, Union, PartialUnion, Chosen, size}
+use Rattle.prettyless_model.specs.Column.{gap, prospective, padding_fits}
+use Rattle.prettyless_model.specs.Indent.{indent_by}
+use Rattle.prettyless_model.specs.Choice.{choice_holds}
 use Rattle.prettyless_model.specs.Look.{answer_of, by_mode, look}
 use Rattle.prettyless_model.specs.Layout.{State, Outcome, Done, Failed, Entry, Breaks, after_bytes, and_then, lay, lay_each, lay_text}
 use Rattle.prettyless_model.specs.Layout.{lay_ending, some_pending, probe, accept, in_trial, is_suppressed, flushed, entry, entries}
@@ -109,9 +110,7 @@ lay_right o {brk} k (Append x y) i m r s st h =
     (λ u. lay_right o k y i m r s u h)
 lay_right o k (LineSuffix d) i m r s st h = ap (λ (x : List Tree). Done [] (record st { pending = x }))
     (sym (map_push right st.pending d))
-lay_right o k (Nest n d) i m r s st h = lay_right o k d (nested i n) m r s st h
-lay_right o k (DedentToRoot d) i m r s st h = lay_right o k d 0 m r s st h
-lay_right o k (Align d) i m r s st h = lay_right o k d (prospective st.column) m r s st h
+lay_right o k (Indented how d) i m r s st h = lay_right o k d (indent_by how i st.column) m r s st h
 lay_right o k (Flatten d) i m r s st h = lay_right o k d i Flat r s st h
 lay_right o k (BreakOrFlat x y) i Break r s st h = lay_right o k x i Break r s st h
 lay_right o k (BreakOrFlat x y) i Flat r s st h = lay_right o k y i Flat r s st h
@@ -132,18 +131,12 @@ lay_right o {brk} k (PartialUnion x y) i Break r s st h =
     (right_probe o x i Break r s st h) (lay_right o k x i Break r s st h) (lay_right o k y i Break r s st h)
     ∙ right-either (probe o x i Break r st) (lay o brk x i Break r st) (lay o brk y i Break r st)
 lay_right o k (PartialUnion x y) i Flat r s st h = lay_right o k x i Flat r s st h
-lay_right o {brk} k (OnColumn test x y) i m r s st h =
-    same-either (column_holds test (prospective st.column) i)
+lay_right o {brk} k (Chosen test x y) i m r s st h =
+    same-either (choice_holds test (prospective st.column) i)
     (lay o brk (right x) i m s (right_state st)) (lay o brk (right y) i m s (right_state st)) (right_outcome (lay o brk x i m r st))
     (right_outcome (lay o brk y i m r st))
     (lay_right o k x i m r s st h) (lay_right o k y i m r s st h)
-    ∙ right-either (column_holds test (prospective st.column) i) (lay o brk x i m r st) (lay o brk y i m r st)
-lay_right o {brk} k (OnNesting test x y) i m r s st h =
-    same-either (nesting_holds test i)
-    (lay o brk (right x) i m s (right_state st)) (lay o brk (right y) i m s (right_state st)) (right_outcome (lay o brk x i m r st))
-    (right_outcome (lay o brk y i m r st))
-    (lay_right o k x i m r s st h) (lay_right o k y i m r s st h)
-    ∙ right-either (nesting_holds test i) (lay o brk x i m r st) (lay o brk y i m r st)
+    ∙ right-either (choice_holds test (prospective st.column) i) (lay o brk x i m r st) (lay o brk y i m r st)
 lay_right o k _ i Break r s st h = refl
 lay_right o k _ i Flat r s st h = refl
 

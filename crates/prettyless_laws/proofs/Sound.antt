@@ -7,6 +7,7 @@ use Rattle.std.proofs.lemmas.List.{replicate-append-replicate}
 use Rattle.prettyless_model.specs.Spaces.{spaces}
 use Rattle.prettyless_model.specs.Tree.{Tree}
 use Rattle.prettyless_model.specs.Column.{start, saturating_add, gap, commit, blank, nested}
+use Rattle.prettyless_model.specs.Indent.{Indenting, Nest, Align, indent_by}
 use Rattle.prettyless_model.specs.Layout.{Entry, after_payload, next_indent, entries}
 use Rattle.prettyless_model.specs.declared.column.Column.{Column}
 use Rattle.prettyless_model.specs.declared.metrics.Metrics.{Metrics}
@@ -36,6 +37,12 @@ zero_in_range = omega arith
 pub nested_in_range : (i : ℕ) (k : ℤ) → InRange i → InRange (nested i k)
 nested_in_range i (pos k) h = sum_in_range i k
 nested_in_range i (negsuc k) h = le_trans (sub-le i (k + 1)) h
+
+-- so is the indent that a node sets
+pub indent_in_range : (how : Indenting) (i : ℕ) (c : Column) → InRange i → InRange (indent_by how i c)
+indent_in_range (Nest k) i c h = nested_in_range i k h
+indent_in_range Align i c h = sum_in_range (saturating_add c.position c.indent) c.padding
+indent_in_range _ i c h = zero_in_range
 
 pub next_in_range : (i : ℕ) (rest : List Entry) → InRange i → EntriesInRange rest → InRange (next_indent i rest)
 next_in_range i [] h r = h

@@ -6,10 +6,11 @@ use Rattle.std.proofs.Math.Numerals.{add-one}
 use Rattle.std.proofs.lemmas.List.Elements.{All-nil, All-cons, All-head, All-tail, All-append, All-push, All-same}
 use Rattle.prettyless_model.specs.Spaces.{spaces}
 use Rattle.prettyless_model.specs.declared.options.RenderOptions.{RenderOptions}
-use Rattle.prettyless_model.specs.Tree.{Tree, Fail, Text, TextWithLen, HardLine, WeakLine, Append, LineSuffix, Nest, DedentToRoot, Align}
-use Rattle.prettyless_model.specs.Tree.{Flatten, BreakOrFlat, Group, Union, PartialUnion, OnColumn, OnNesting, size}
-use Rattle.prettyless_model.specs.Choice.{column_holds, nesting_holds}
-use Rattle.prettyless_model.specs.Column.{gap, prospective, nested}
+use Rattle.prettyless_model.specs.Tree.{Tree, Fail, Text, TextWithLen, HardLine, WeakLine, Append, LineSuffix, Indented, Flatten}
+use Rattle.prettyless_model.specs.Tree.{BreakOrFlat, Group, Union, PartialUnion, Chosen, size}
+use Rattle.prettyless_model.specs.Choice.{choice_holds}
+use Rattle.prettyless_model.specs.Column.{gap, prospective}
+use Rattle.prettyless_model.specs.Indent.{indent_by}
 use Rattle.prettyless_model.specs.Layout.{State, Outcome, Done, Failed, Whole, Entry, Breaks, after_bytes, and_then, lay, lay_each, probe}
 use Rattle.prettyless_model.specs.Layout.{in_trial, flushed, entry, entries, break_with, end_with, breaks, finish, layout}
 use Rattle.prettyless_model.specs.Layout.{layout_by, initial}
@@ -60,18 +61,14 @@ suffixes_total Fail ds t h = absurd t
 suffixes_total (Append l r) ds t h =
     All-same IsTotal ds (h.0 ++ h.1) h.4 (All-append IsTotal h.0 h.1 (suffixes_total l h.0 t.0 h.2) (suffixes_total r h.1 t.1 h.3))
 suffixes_total (LineSuffix d) ds t h = All-same IsTotal ds (d ∷ []) h (All-cons IsTotal d [] t (All-nil IsTotal))
-suffixes_total (Nest k d) ds t h = suffixes_total d ds t h
-suffixes_total (DedentToRoot d) ds t h = suffixes_total d ds t h
-suffixes_total (Align d) ds t h = suffixes_total d ds t h
+suffixes_total (Indented how d) ds t h = suffixes_total d ds t h
 suffixes_total (Flatten d) ds t h = absurd t
 suffixes_total (BreakOrFlat b f) ds t h = suffixes_total f ds t.1 h
 suffixes_total (Group d) ds t h = suffixes_total d ds t h
 suffixes_total (Union l r) ds t h = suffixes_total l ds t.0 h
 suffixes_total (PartialUnion l r) ds t h = suffixes_total l ds t.0 h
-suffixes_total (OnColumn test y n) ds t (inl h) = suffixes_total y ds t.0 h
-suffixes_total (OnColumn test y n) ds t (inr h) = suffixes_total n ds t.1 h
-suffixes_total (OnNesting test y n) ds t (inl h) = suffixes_total y ds t.0 h
-suffixes_total (OnNesting test y n) ds t (inr h) = suffixes_total n ds t.1 h
+suffixes_total (Chosen test y n) ds t (inl h) = suffixes_total y ds t.0 h
+suffixes_total (Chosen test y n) ds t (inr h) = suffixes_total n ds t.1 h
 suffixes_total _ ds t h = All-same IsTotal ds [] h (All-nil IsTotal)
 
 flat_lays : (o : RenderOptions) (brk : Breaks) → SkipsWeakLines brk → (d : Tree) (i : ℕ) (rest : List Entry) (st : State) → IsTotal d
@@ -104,9 +101,7 @@ lay_lays o {brk} g (Append x y) i rest st t p l =
     (lay_lays o g x i (entry i y ∷ rest) st t.0 p (omega arith))
     (λ u q n. lay_lays o g y i rest u t.1 q (omega arith))
 lay_lays o g (LineSuffix d) i rest st t p l = All-push IsTotal st.pending d p t
-lay_lays o g (Nest n d) i rest st t p l = lay_lays o g d (nested i n) rest st t p l
-lay_lays o g (DedentToRoot d) i rest st t p l = lay_lays o g d 0 rest st t p l
-lay_lays o g (Align d) i rest st t p l = lay_lays o g d (prospective st.column) rest st t p l
+lay_lays o g (Indented how d) i rest st t p l = lay_lays o g d (indent_by how i st.column) rest st t p l
 lay_lays o g (Flatten d) i rest st t p l = absurd t
 lay_lays o g (BreakOrFlat x y) i rest st t p l = lay_lays o g x i rest st t.0 p (omega arith)
 lay_lays o {brk} g (Group d) i rest st t p l =
@@ -121,12 +116,8 @@ lay_lays o {brk} g (PartialUnion x y) i rest st t p l =
     holds-either Lays (probe o x i Break rest st) (lay o brk x i Break rest st) (lay o brk y i Break rest st)
     (lay_lays o g x i rest st t.0 p (omega arith))
     (lay_lays o g y i rest st t.1 p (omega arith))
-lay_lays o {brk} g (OnColumn test x y) i rest st t p l =
-    holds-either Lays (column_holds test (prospective st.column) i) (lay o brk x i Break rest st) (lay o brk y i Break rest st)
-    (lay_lays o g x i rest st t.0 p (omega arith))
-    (lay_lays o g y i rest st t.1 p (omega arith))
-lay_lays o {brk} g (OnNesting test x y) i rest st t p l =
-    holds-either Lays (nesting_holds test i) (lay o brk x i Break rest st) (lay o brk y i Break rest st)
+lay_lays o {brk} g (Chosen test x y) i rest st t p l =
+    holds-either Lays (choice_holds test (prospective st.column) i) (lay o brk x i Break rest st) (lay o brk y i Break rest st)
     (lay_lays o g x i rest st t.0 p (omega arith))
     (lay_lays o g y i rest st t.1 p (omega arith))
 lay_lays o g _ i rest st t p l = p

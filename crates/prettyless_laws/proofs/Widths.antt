@@ -5,11 +5,11 @@ use Rattle.prettyless_model.specs.declared.options.RenderOptions.{RenderOptions}
 use Rattle.prettyless_model.specs.declared.options.IndentationPolicy.{IndentationPolicy}
 use Rattle.prettyless_model.specs.declared.options.IndentationPolicy.TheVariants.{Eager, Deferred}
 use Rattle.prettyless_model.specs.Tree.{Tree, Fail, Text, TextWithLen, MultilineText, WeakSpace, HardLine, WeakLine, Append, LineSuffix}
-use Rattle.prettyless_model.specs.Tree.{Nest, DedentToRoot, Align, Flatten, BreakOrFlat, Group, Union, PartialUnion, OnColumn, OnNesting}
-use Rattle.prettyless_model.specs.Tree.{size}
+use Rattle.prettyless_model.specs.Tree.{Indented, Flatten, BreakOrFlat, Group, Union, PartialUnion, Chosen, size}
 use Rattle.prettyless_model.specs.Metrics.{metrics}
-use Rattle.prettyless_model.specs.Choice.{column_holds, nesting_holds}
-use Rattle.prettyless_model.specs.Column.{indented, deferred, prospective, commit, padding_fits, nested}
+use Rattle.prettyless_model.specs.Choice.{choice_holds}
+use Rattle.prettyless_model.specs.Column.{indented, deferred, prospective, commit, padding_fits}
+use Rattle.prettyless_model.specs.Indent.{indent_by}
 use Rattle.prettyless_model.specs.Layout.{State, Entry, after_payload, next_indent, entry, entries, some_pending, probe, in_trial, flushed}
 use Rattle.prettyless_model.specs.Layout.{is_suppressed, initial}
 use Rattle.prettyless_model.specs.declared.column.Column.{Column}
@@ -22,7 +22,7 @@ use Rattle.prettyless_laws.specs.Trace.{trace_text, trace_payload, trace_ending,
 use Rattle.prettyless_laws.specs.Trace.{trace_each}
 use Rattle.prettyless_laws.specs.Trace.{trace_break_with, trace_breaks, trace_end_with, trace_finish, trace_by, settled, trace_of, trace}
 use Rattle.prettyless_laws.specs.Trace.{Complete, Partial}
-use Rattle.prettyless_laws.proofs.Alike.{AlikeStates, alike_equal, prospective_alike, commit_alike, blank_alike, ending_alike}
+use Rattle.prettyless_laws.proofs.Alike.{AlikeStates, alike_equal, prospective_alike, indent_alike, commit_alike, blank_alike, ending_alike}
 use Rattle.prettyless_laws.proofs.Alike.{padding_fits_alike, probe_alike, payload_alike, flushed_alike, suppressed_alike}
 
 -- ---- tracings that are the same
@@ -149,12 +149,10 @@ traces_same o p e {a} {b} k (Append x y) i m rest {s} {u} h =
     (λ v w q. traces_same o p e k y i m rest q)
 traces_same o p e k (LineSuffix d) i m rest h =
     (refl, record { column = h.column; pending = ap (λ (ps : List Tree). ps ++ d ∷ []) h.pending; within = h.within })
-traces_same o p e k (Nest n d) i m rest h = traces_same o p e k d (nested i n) m rest h
-traces_same o p e k (DedentToRoot d) i m rest h = traces_same o p e k d 0 m rest h
-traces_same o p e {a} {b} k (Align d) i m rest {s} {u} h =
-    subst (λ (n : ℕ). Same (trace_at o a d (prospective s.column) m rest s) (trace_at p b d n m rest u))
-    (prospective_alike s.column u.column h.column)
-    (traces_same o p e k d (prospective s.column) m rest h)
+traces_same o p e {a} {b} k (Indented how d) i m rest {s} {u} h =
+    subst (λ (n : ℕ). Same (trace_at o a d (indent_by how i s.column) m rest s) (trace_at p b d n m rest u))
+    (indent_alike how i s.column u.column h.column)
+    (traces_same o p e k d (indent_by how i s.column) m rest h)
 traces_same o p e k (Flatten d) i m rest h = traces_same o p e k d i Flat rest h
 traces_same o p e k (BreakOrFlat x y) i Break rest h = traces_same o p e k x i Break rest h
 traces_same o p e k (BreakOrFlat x y) i Flat rest h = traces_same o p e k y i Flat rest h
@@ -178,15 +176,10 @@ traces_same o p e {a} {b} k (PartialUnion x y) i Break rest {s} {u} h =
     (traces_same o p e k x i Break rest h)
     (traces_same o p e k y i Break rest h)
 traces_same o p e k (PartialUnion x y) i Flat rest h = traces_same o p e k x i Flat rest h
-traces_same o p e {a} {b} k (OnColumn test x y) i m rest {s} {u} h =
-    same-chosen (column_holds test (prospective s.column) i) (column_holds test (prospective u.column) i) (trace_at o a x i m rest s)
+traces_same o p e {a} {b} k (Chosen test x y) i m rest {s} {u} h =
+    same-chosen (choice_holds test (prospective s.column) i) (choice_holds test (prospective u.column) i) (trace_at o a x i m rest s)
     (trace_at o a y i m rest s) (trace_at p b x i m rest u) (trace_at p b y i m rest u)
-    (ap (λ (n : ℕ). column_holds test n i) (prospective_alike s.column u.column h.column))
-    (traces_same o p e k x i m rest h)
-    (traces_same o p e k y i m rest h)
-traces_same o p e {a} {b} k (OnNesting test x y) i m rest {s} {u} h =
-    same-chosen (nesting_holds test i) (nesting_holds test i) (trace_at o a x i m rest s) (trace_at o a y i m rest s)
-    (trace_at p b x i m rest u) (trace_at p b y i m rest u) refl
+    (ap (λ (n : ℕ). choice_holds test n i) (prospective_alike s.column u.column h.column))
     (traces_same o p e k x i m rest h)
     (traces_same o p e k y i m rest h)
 -- every other node leaves the state as it is

@@ -6,11 +6,12 @@ use Rattle.prettyless_model.specs.Spaces.{spaces}
 use Rattle.prettyless_model.specs.declared.options.RenderOptions.{RenderOptions}
 use Rattle.prettyless_model.specs.declared.options.IndentationPolicy.{IndentationPolicy}
 use Rattle.prettyless_model.specs.declared.options.IndentationPolicy.TheVariants.{Eager, Deferred}
-use Rattle.prettyless_model.specs.Tree.{Tree, Fail, Text, TextWithLen, MultilineText, WeakSpace, HardLine, WeakLine, Append, Nest}
-use Rattle.prettyless_model.specs.Tree.{DedentToRoot, Align, Flatten, BreakOrFlat, Group, Union, PartialUnion, OnColumn, OnNesting, size}
+use Rattle.prettyless_model.specs.Tree.{Tree, Fail, Text, TextWithLen, MultilineText, WeakSpace, HardLine, WeakLine, Append, Indented}
+use Rattle.prettyless_model.specs.Tree.{Flatten, BreakOrFlat, Group, Union, PartialUnion, Chosen, size}
 use Rattle.prettyless_model.specs.Metrics.{metrics}
-use Rattle.prettyless_model.specs.Choice.{column_holds, nesting_holds}
-use Rattle.prettyless_model.specs.Column.{gap, prospective, padding_fits, saturating_add, nested}
+use Rattle.prettyless_model.specs.Choice.{choice_holds}
+use Rattle.prettyless_model.specs.Column.{gap, prospective, padding_fits}
+use Rattle.prettyless_model.specs.Indent.{indent_by}
 use Rattle.prettyless_model.specs.Layout.{State, Outcome, Done, Failed, Entry, Breaks, Whole, Cut, after_bytes, and_then, lay, lay_each}
 use Rattle.prettyless_model.specs.Layout.{lay_text, lay_payload, lay_ending, next_indent, probe, accept, in_trial, some_pending}
 use Rattle.prettyless_model.specs.Layout.{is_suppressed}
@@ -25,7 +26,7 @@ use Rattle.prettyless_laws.specs.Trace.{trace_each}
 use Rattle.prettyless_laws.specs.Trace.{trace_break_with, trace_breaks, trace_end_with, trace_finish, trace_by, has_content, settled}
 use Rattle.prettyless_laws.specs.Trace.{trace_of, trace, written_pieces, written_out}
 use Rattle.prettyless_laws.proofs.Owed.{at_once, later, owed, left, owed-append, left-append, none_owed, owed_settled}
-use Rattle.prettyless_laws.proofs.Sound.{InRange, Sound, EntriesInRange, sum_in_range, zero_in_range, nested_in_range, next_in_range}
+use Rattle.prettyless_laws.proofs.Sound.{InRange, Sound, EntriesInRange, zero_in_range, indent_in_range, next_in_range}
 use Rattle.prettyless_laws.proofs.Sound.{entries_in_range, gap_spaces, commit_sound, blank_sound, blank_indent, after_sound, after_indent}
 
 -- ---- outcomes and tracings that match
@@ -171,10 +172,8 @@ lay_matches {o} {a} {b} k (Append x y) i m rest s r e h =
     (λ v. lay o a y i m rest v) (λ v. trace_at o b y i m rest v)
     (lay_matches k x i m (entry i y ∷ rest) s r (r, e) h)
     (λ v q. lay_matches k y i m rest v r e q)
-lay_matches k (Nest n d) i m rest s r e h = lay_matches k d (nested i n) m rest s (nested_in_range i n r) e h
-lay_matches k (DedentToRoot d) i m rest s r e h = lay_matches k d 0 m rest s zero_in_range e h
-lay_matches k (Align d) i m rest s r e h =
-    lay_matches k d (prospective s.column) m rest s (sum_in_range (saturating_add s.column.position s.column.indent) s.column.padding) e h
+lay_matches k (Indented how d) i m rest s r e h =
+    lay_matches k d (indent_by how i s.column) m rest s (indent_in_range how i s.column r) e h
 lay_matches k (Flatten d) i m rest s r e h = lay_matches k d i Flat rest s r e h
 lay_matches k (BreakOrFlat x y) i Break rest s r e h = lay_matches k x i Break rest s r e h
 lay_matches k (BreakOrFlat x y) i Flat rest s r e h = lay_matches k y i Flat rest s r e h
@@ -196,14 +195,9 @@ lay_matches {o} {a} {b} k (PartialUnion x y) i Break rest s r e h =
     (lay_matches k x i Break rest s r e h)
     (lay_matches k y i Break rest s r e h)
 lay_matches k (PartialUnion x y) i Flat rest s r e h = lay_matches k x i Flat rest s r e h
-lay_matches {o} {a} {b} k (OnColumn test x y) i m rest s r e h =
-    matches-either o s.column.indent (column_holds test (prospective s.column) i) (lay o a x i m rest s) (lay o a y i m rest s)
+lay_matches {o} {a} {b} k (Chosen test x y) i m rest s r e h =
+    matches-either o s.column.indent (choice_holds test (prospective s.column) i) (lay o a x i m rest s) (lay o a y i m rest s)
     (trace_at o b x i m rest s) (trace_at o b y i m rest s)
-    (lay_matches k x i m rest s r e h)
-    (lay_matches k y i m rest s r e h)
-lay_matches {o} {a} {b} k (OnNesting test x y) i m rest s r e h =
-    matches-either o s.column.indent (nesting_holds test i) (lay o a x i m rest s) (lay o a y i m rest s) (trace_at o b x i m rest s)
-    (trace_at o b y i m rest s)
     (lay_matches k x i m rest s r e h)
     (lay_matches k y i m rest s r e h)
 -- every other node leaves the column as it is

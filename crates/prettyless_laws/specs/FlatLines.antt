@@ -1,8 +1,8 @@
 -- Laws of flat lines: what the probe answers yes to is laid on one line, and its trace shows that.
 use Rattle.std.specs.Prelude.{◌≡◌, ℕ, suc, ◌≤◌, Bool, true, List, [], ◌∷◌, ◌++◌, All, ◌⊎◌, ⊤}
 use Rattle.prettyless_model.specs.declared.options.RenderOptions.{RenderOptions}
-use Rattle.prettyless_model.specs.Tree.{Tree, WeakLine, Append, LineSuffix, Nest, DedentToRoot, Align, Flatten, BreakOrFlat, Group, Union}
-use Rattle.prettyless_model.specs.Tree.{PartialUnion, OnColumn, OnNesting}
+use Rattle.prettyless_model.specs.Tree.{Tree, WeakLine, Append, LineSuffix, Indented, Flatten, BreakOrFlat, Group, Union, PartialUnion}
+use Rattle.prettyless_model.specs.Tree.{Chosen}
 use Rattle.prettyless_model.specs.Layout.{State, Done, Breaks, Entry, lay, probe, rest_fits, some_pending, in_trial, breaks}
 use Rattle.prettyless_model.specs.Levels.{settle}
 use Rattle.prettyless_model.specs.declared.column.Column.{Column}
@@ -17,16 +17,13 @@ use Rattle.prettyless_laws.specs.Trace.{Piece, Ending, Indent, Gap, Source, Alte
 abbrev pub LeavesPending : Tree → List Tree → Type 0
 LeavesPending (Append l r) ds = (xs : List Tree) × (ys : List Tree) × LeavesPending l xs × LeavesPending r ys × (ds ≡ xs ++ ys)
 LeavesPending (LineSuffix d) ds = ds ≡ d ∷ []
-LeavesPending (Nest k d) ds = LeavesPending d ds
-LeavesPending (DedentToRoot d) ds = LeavesPending d ds
-LeavesPending (Align d) ds = LeavesPending d ds
+LeavesPending (Indented how d) ds = LeavesPending d ds
 LeavesPending (Flatten d) ds = LeavesPending d ds
 LeavesPending (BreakOrFlat b f) ds = LeavesPending f ds
 LeavesPending (Group d) ds = LeavesPending d ds
 LeavesPending (Union l r) ds = LeavesPending l ds
 LeavesPending (PartialUnion l r) ds = LeavesPending l ds
-LeavesPending (OnColumn test y n) ds = LeavesPending y ds ⊎ LeavesPending n ds
-LeavesPending (OnNesting test y n) ds = LeavesPending y ds ⊎ LeavesPending n ds
+LeavesPending (Chosen test y n) ds = LeavesPending y ds ⊎ LeavesPending n ds
 LeavesPending _ ds = ds ≡ []
 
 -- a meaning of a break that leaves out a weak line where the line is fresh and nothing is pending; of every other

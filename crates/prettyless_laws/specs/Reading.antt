@@ -40,17 +40,14 @@ reading t.HardLine m = by_mode m (Hard ∷ []) (Stop ∷ [])
 reading t.WeakLine m = Weak m ∷ []
 reading (t.Append l r) m = reading l m ++ reading r m
 reading (t.LineSuffix d) m = Queue ∷ []
-reading (t.Nest k d) m = reading d m
-reading (t.DedentToRoot d) m = reading d m
-reading (t.Align d) m = reading d m
+reading (t.Indented how d) m = reading d m
 reading t.ExpandParent m = by_mode m [] (Stop ∷ [])
 reading (t.Flatten d) m = reading d Flat
 reading (t.BreakOrFlat b f) m = by_mode m (reading b m) (reading f m)
 reading (t.Group d) m = reading d m
 reading (t.Union l r) m = by_mode m (reading r m) (reading l m)
 reading (t.PartialUnion l r) m = by_mode m (reading r m) (reading l m)
-reading (t.OnColumn test y n) m = []
-reading (t.OnNesting test y n) m = []
+reading (t.Chosen test y n) m = []
 
 -- what is read after the probed document: each document that follows, in Break
 abbrev pub rest_atoms : List Entry → List Atom
@@ -73,16 +70,13 @@ fits width c pending (Payload w nonempty ∷ atoms) = not nonempty || nat_le (co
 abbrev pub IsPlain : Tree → Type 0
 IsPlain (t.Append l r) = IsPlain l × IsPlain r
 IsPlain (t.LineSuffix d) = IsPlain d
-IsPlain (t.Nest k d) = IsPlain d
-IsPlain (t.DedentToRoot d) = IsPlain d
-IsPlain (t.Align d) = IsPlain d
+IsPlain (t.Indented how d) = IsPlain d
 IsPlain (t.Flatten d) = IsPlain d
 IsPlain (t.BreakOrFlat b f) = IsPlain b × IsPlain f
 IsPlain (t.Group d) = IsPlain d
 IsPlain (t.Union l r) = IsPlain l × IsPlain r
 IsPlain (t.PartialUnion l r) = IsPlain l × IsPlain r
-IsPlain (t.OnColumn test y n) = ⊥
-IsPlain (t.OnNesting test y n) = ⊥
+IsPlain (t.Chosen test y n) = ⊥
 IsPlain _ = ⊤
 
 -- nor in what follows

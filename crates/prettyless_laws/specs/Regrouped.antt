@@ -1,8 +1,7 @@
 -- How documents are grouped: one after another, in any grouping, they have one layout.
 use Rattle.std.specs.Prelude.{◌≡◌}
 use Rattle.prettyless_model.specs.declared.options.RenderOptions.{RenderOptions}
-use Rattle.prettyless_model.specs.Tree.{Tree, Append, LineSuffix, Nest, DedentToRoot, Align, Flatten, BreakOrFlat, Group, Union}
-use Rattle.prettyless_model.specs.Tree.{PartialUnion, OnColumn, OnNesting}
+use Rattle.prettyless_model.specs.Tree.{Tree, Append, LineSuffix, Indented, Flatten, BreakOrFlat, Group, Union, PartialUnion, Chosen}
 use Rattle.prettyless_model.specs.Layout.{layout}
 
 -- a document after another, at the end of the latter's right arms
@@ -14,16 +13,13 @@ appended l d = Append l d
 abbrev pub right : Tree → Tree
 right (Append l r) = appended (right l) (right r)
 right (LineSuffix d) = LineSuffix (right d)
-right (Nest k d) = Nest k (right d)
-right (DedentToRoot d) = DedentToRoot (right d)
-right (Align d) = Align (right d)
+right (Indented how d) = Indented how (right d)
 right (Flatten d) = Flatten (right d)
 right (BreakOrFlat b f) = BreakOrFlat (right b) (right f)
 right (Group d) = Group (right d)
 right (Union l r) = Union (right l) (right r)
 right (PartialUnion l r) = PartialUnion (right l) (right r)
-right (OnColumn test y n) = OnColumn test (right y) (right n)
-right (OnNesting test y n) = OnNesting test (right y) (right n)
+right (Chosen test y n) = Chosen test (right y) (right n)
 right d = d
 
 -- regrouping changes no layout

@@ -8,8 +8,9 @@ use Rattle.prettyless_model.specs.declared.options.IndentationPolicy.TheVariants
 use Rattle.prettyless_model.specs.Tree as t
 use Rattle.prettyless_model.specs.Tree.{Tree, size}
 use Rattle.prettyless_model.specs.Metrics.{metrics}
-use Rattle.prettyless_model.specs.Column.{indented, deferred, prospective, commit, blank, padding_fits, nested}
-use Rattle.prettyless_model.specs.Choice.{column_holds, nesting_holds}
+use Rattle.prettyless_model.specs.Column.{indented, deferred, prospective, commit, blank, padding_fits}
+use Rattle.prettyless_model.specs.Indent.{indent_by}
+use Rattle.prettyless_model.specs.Choice.{choice_holds}
 use Rattle.prettyless_model.specs.Look.{by_mode}
 use Rattle.prettyless_model.specs.Layout.{State, Entry, Bytes, Whole, Cut, payload_fits, after_payload, next_indent, entry, entries}
 use Rattle.prettyless_model.specs.Layout.{some_pending, probe, in_trial, flushed, is_suppressed, initial}
@@ -95,9 +96,7 @@ trace_at o brk t.HardLine i m rest st = by_mode m (brk t.HardLine i m rest st) (
 trace_at o brk t.WeakLine i m rest st = brk t.WeakLine i m rest st
 trace_at o brk (t.Append l r) i m rest st = traced_then (trace_at o brk l i m (entry i r ∷ rest) st) (λ u. trace_at o brk r i m rest u)
 trace_at o brk (t.LineSuffix d) i m rest st = Traced [] (record st { pending = st.pending ++ d ∷ [] })
-trace_at o brk (t.Nest k d) i m rest st = trace_at o brk d (nested i k) m rest st
-trace_at o brk (t.DedentToRoot d) i m rest st = trace_at o brk d 0 m rest st
-trace_at o brk (t.Align d) i m rest st = trace_at o brk d (prospective st.column) m rest st
+trace_at o brk (t.Indented how d) i m rest st = trace_at o brk d (indent_by how i st.column) m rest st
 trace_at o brk t.ExpandParent i m rest st = Traced [] st
 trace_at o brk (t.Flatten d) i m rest st = trace_at o brk d i Flat rest st
 trace_at o brk (t.BreakOrFlat b f) i m rest st = by_mode m (trace_at o brk b i m rest st) (trace_at o brk f i m rest st)
@@ -114,11 +113,9 @@ trace_at o brk (t.PartialUnion l r) i m rest st =
     (if probe o l i Break rest st then noted_choice First (trace_at o brk l i m rest st) else noted_choice Second
     (trace_at o brk r i m rest st))
     (trace_at o brk l i m rest st)
-trace_at o brk (t.OnColumn test y n) i m rest st =
-    if column_holds test (prospective st.column) i then noted_choice First (trace_at o brk y i m rest st)
+trace_at o brk (t.Chosen test y n) i m rest st =
+    if choice_holds test (prospective st.column) i then noted_choice First (trace_at o brk y i m rest st)
     else noted_choice Second (trace_at o brk n i m rest st)
-trace_at o brk (t.OnNesting test y n) i m rest st =
-    if nesting_holds test i then noted_choice First (trace_at o brk y i m rest st) else noted_choice Second (trace_at o brk n i m rest st)
 
 -- trees one after another at one indent
 unfoldable pub trace_each : RenderOptions → BreakTraces → List Tree → ℕ → Mode → List Entry → State → Tracing

@@ -4,11 +4,11 @@ use Rattle.std.proofs.lemmas.List.Sums.{sum_by-append}
 use Rattle.prettyless_model.specs.Spaces.{spaces}
 use Rattle.prettyless_model.specs.declared.options.RenderOptions.{RenderOptions}
 use Rattle.prettyless_model.specs.Tree.{Tree, Nil, Fail, Text, TextWithLen, MultilineText, WeakSpace, HardLine, WeakLine, Append}
-use Rattle.prettyless_model.specs.Tree.{LineSuffix, Nest, DedentToRoot, Align, ExpandParent, Flatten, BreakOrFlat, Group, Union}
-use Rattle.prettyless_model.specs.Tree.{PartialUnion, OnColumn, OnNesting, size}
-use Rattle.prettyless_model.specs.Column.{gap, blank, prospective, nested}
+use Rattle.prettyless_model.specs.Tree.{LineSuffix, Indented, ExpandParent, Flatten, BreakOrFlat, Group, Union, PartialUnion, Chosen, size}
+use Rattle.prettyless_model.specs.Column.{gap, blank, prospective}
 use Rattle.prettyless_model.specs.Metrics.{metrics}
-use Rattle.prettyless_model.specs.Choice.{column_holds, nesting_holds}
+use Rattle.prettyless_model.specs.Indent.{indent_by}
+use Rattle.prettyless_model.specs.Choice.{choice_holds}
 use Rattle.prettyless_model.specs.Look.{by_mode}
 use Rattle.prettyless_model.specs.Layout.{State, Outcome, Done, Failed, Entry, Breaks, Whole, after_bytes, and_then, lay, lay_each}
 use Rattle.prettyless_model.specs.Layout.{lay_text, lay_payload, probe, in_trial, plain_break, flushed, entry, entries, break_with}
@@ -102,9 +102,7 @@ lay_counts o {brk} {c} k (Append x y) i m rest {st} {q} w h s =
     (λ z r e. lay_counts o k y i m rest h.1 h.3 e)
 lay_counts o {brk} {c} k (LineSuffix d) i m rest {st} {q} w h s =
     (q ++ w, record { spelled = spells_one_more st.pending d q w s.spelled h }, omega (arith, count-append c q w))
-lay_counts o k (Nest n d) i m rest w h s = lay_counts o k d (nested i n) m rest w h s
-lay_counts o k (DedentToRoot d) i m rest w h s = lay_counts o k d 0 m rest w h s
-lay_counts o k (Align d) i m rest {st} w h s = lay_counts o k d (prospective st.column) m rest w h s
+lay_counts o k (Indented how d) i m rest {st} w h s = lay_counts o k d (indent_by how i st.column) m rest w h s
 lay_counts o {brk} {c} k ExpandParent i m rest {st} w h s = leaves_writes c [] w (Done [] st) (refl, refl) h s
 lay_counts o k (Flatten d) i m rest w h s = lay_counts o k d i Flat rest w h s
 lay_counts o k (BreakOrFlat x y) i Break rest w h s = lay_counts o k x i Break rest w h.0 s
@@ -123,13 +121,9 @@ lay_counts o {brk} {c} k (PartialUnion x y) i Break rest {st} {q} w h s =
     (lay_counts o k x i Break rest w h.0 s)
     (lay_counts o k y i Break rest w h.1 s)
 lay_counts o k (PartialUnion x y) i Flat rest w h s = lay_counts o k x i Flat rest w h.0 s
-lay_counts o {brk} {c} k (OnColumn test x y) i m rest {st} {q} w h s =
-    holds-either (Leaves c (count c w + count c q)) (column_holds test (prospective st.column) i) (lay o brk x i m rest st)
+lay_counts o {brk} {c} k (Chosen test x y) i m rest {st} {q} w h s =
+    holds-either (Leaves c (count c w + count c q)) (choice_holds test (prospective st.column) i) (lay o brk x i m rest st)
     (lay o brk y i m rest st)
-    (lay_counts o k x i m rest w h.0 s)
-    (lay_counts o k y i m rest w h.1 s)
-lay_counts o {brk} {c} k (OnNesting test x y) i m rest {st} {q} w h s =
-    holds-either (Leaves c (count c w + count c q)) (nesting_holds test i) (lay o brk x i m rest st) (lay o brk y i m rest st)
     (lay_counts o k x i m rest w h.0 s)
     (lay_counts o k y i m rest w h.1 s)
 

@@ -5,11 +5,11 @@ use Rattle.std.proofs.Common.{if◌then◌else◌}
 use Rattle.prettyless_model.specs.Spaces.{spaces}
 use Rattle.prettyless_model.specs.declared.options.RenderOptions.{RenderOptions}
 use Rattle.prettyless_model.specs.Tree.{Tree, Nil, Fail, Text, TextWithLen, MultilineText, WeakSpace, HardLine, WeakLine, Append}
-use Rattle.prettyless_model.specs.Tree.{LineSuffix, Nest, DedentToRoot, Align, ExpandParent, Flatten, BreakOrFlat, Group, Union}
-use Rattle.prettyless_model.specs.Tree.{PartialUnion, OnColumn, OnNesting, size}
-use Rattle.prettyless_model.specs.Column.{gap, blank, prospective, nested}
+use Rattle.prettyless_model.specs.Tree.{LineSuffix, Indented, ExpandParent, Flatten, BreakOrFlat, Group, Union, PartialUnion, Chosen, size}
+use Rattle.prettyless_model.specs.Column.{gap, blank, prospective}
 use Rattle.prettyless_model.specs.Metrics.{metrics}
-use Rattle.prettyless_model.specs.Choice.{column_holds, nesting_holds}
+use Rattle.prettyless_model.specs.Indent.{indent_by}
+use Rattle.prettyless_model.specs.Choice.{choice_holds}
 use Rattle.prettyless_model.specs.Look.{by_mode}
 use Rattle.prettyless_model.specs.Layout.{State, Outcome, Done, Failed, Entry, Breaks, Whole, after_bytes, and_then, lay, lay_each}
 use Rattle.prettyless_model.specs.Layout.{lay_text, lay_payload, probe, in_trial, plain_break, flushed, entry, entries, break_with}
@@ -148,10 +148,8 @@ lay_merges o k (LineSuffix d) i m rest st {v} {u} {q} h w = (
     depth = depth_one_more st.pending d w.depth (omega (arith, h.depth));
   },
 )
-lay_merges o k (Nest n d) i m rest st h w = lay_merges o k d (nested i n) m rest st (record { parts = h.parts; depth = h.depth }) w
-lay_merges o k (DedentToRoot d) i m rest st h w = lay_merges o k d 0 m rest st (record { parts = h.parts; depth = h.depth }) w
-lay_merges o k (Align d) i m rest st h w =
-    lay_merges o k d (prospective st.column) m rest st (record { parts = h.parts; depth = h.depth }) w
+lay_merges o k (Indented how d) i m rest st h w =
+    lay_merges o k d (indent_by how i st.column) m rest st (record { parts = h.parts; depth = h.depth }) w
 lay_merges o k ExpandParent i m rest st {v} {u} {q} h w = merges_piece v [] q u st (Done [] st) (refl, refl) h.parts w
 lay_merges o k (Flatten d) i m rest st h w = lay_merges o k d i Flat rest st (record { parts = h.parts; depth = h.depth }) w
 lay_merges o k (BreakOrFlat x y) i Break rest st h w =
@@ -173,12 +171,8 @@ lay_merges o {brk} k (PartialUnion x y) i Break rest st {v} {u} {q} h w =
     (lay_merges o k y i Break rest st (record { parts = h.parts.1; depth = omega (arith, h.depth) }) w)
 lay_merges o k (PartialUnion x y) i Flat rest st h w =
     lay_merges o k x i Flat rest st (record { parts = h.parts.0; depth = omega (arith, h.depth) }) w
-lay_merges o {brk} k (OnColumn test x y) i m rest st {v} {u} {q} h w =
-    holds-either (Merges v (q ++ u)) (column_holds test (prospective st.column) i) (lay o brk x i m rest st) (lay o brk y i m rest st)
-    (lay_merges o k x i m rest st (record { parts = h.parts.0; depth = omega (arith, h.depth) }) w)
-    (lay_merges o k y i m rest st (record { parts = h.parts.1; depth = omega (arith, h.depth) }) w)
-lay_merges o {brk} k (OnNesting test x y) i m rest st {v} {u} {q} h w =
-    holds-either (Merges v (q ++ u)) (nesting_holds test i) (lay o brk x i m rest st) (lay o brk y i m rest st)
+lay_merges o {brk} k (Chosen test x y) i m rest st {v} {u} {q} h w =
+    holds-either (Merges v (q ++ u)) (choice_holds test (prospective st.column) i) (lay o brk x i m rest st) (lay o brk y i m rest st)
     (lay_merges o k x i m rest st (record { parts = h.parts.0; depth = omega (arith, h.depth) }) w)
     (lay_merges o k y i m rest st (record { parts = h.parts.1; depth = omega (arith, h.depth) }) w)
 

@@ -3,10 +3,11 @@ use Rattle.std.proofs.Common.{◌≡◌, ℕ, zero, suc, ◌+◌, ◌<◌, ◌�
 use Rattle.std.proofs.Math.Numerals.{add-one}
 use Rattle.prettyless_model.specs.Spaces.{spaces}
 use Rattle.prettyless_model.specs.declared.options.RenderOptions.{RenderOptions}
-use Rattle.prettyless_model.specs.Tree.{Tree, Fail, Text, TextWithLen, MultilineText, HardLine, WeakLine, Append, LineSuffix, Nest}
-use Rattle.prettyless_model.specs.Tree.{DedentToRoot, Align, Flatten, BreakOrFlat, Group, Union, PartialUnion, OnColumn, OnNesting, size}
-use Rattle.prettyless_model.specs.Column.{gap, prospective, nested}
-use Rattle.prettyless_model.specs.Choice.{column_holds, nesting_holds}
+use Rattle.prettyless_model.specs.Tree.{Tree, Fail, Text, TextWithLen, MultilineText, HardLine, WeakLine, Append, LineSuffix, Indented}
+use Rattle.prettyless_model.specs.Tree.{Flatten, BreakOrFlat, Group, Union, PartialUnion, Chosen, size}
+use Rattle.prettyless_model.specs.Column.{gap, prospective}
+use Rattle.prettyless_model.specs.Indent.{indent_by}
+use Rattle.prettyless_model.specs.Choice.{choice_holds}
 use Rattle.prettyless_model.specs.Look.{by_mode}
 use Rattle.prettyless_model.specs.Layout.{State, Outcome, Done, Failed, Entry, Breaks, after_bytes, and_then, lay, lay_each, probe, accept}
 use Rattle.prettyless_model.specs.Layout.{in_trial, flushed, entry, entries, break_with, end_with, breaks, finish, layout}
@@ -79,9 +80,7 @@ lay_keeps o brk k (Append l r) i m rest st =
     (lay_keeps o brk k l i m (entry i r ∷ rest) st)
     (λ u h. leaves-more (suffixes r + queued u.pending) _ (lay o brk r i m rest u) (omega arith) (lay_keeps o brk k r i m rest u))
 lay_keeps o brk k (LineSuffix d) i m rest st = omega (arith, queued-one st.pending d)
-lay_keeps o brk k (Nest n d) i m rest st = lay_keeps o brk k d (nested i n) m rest st
-lay_keeps o brk k (DedentToRoot d) i m rest st = lay_keeps o brk k d 0 m rest st
-lay_keeps o brk k (Align d) i m rest st = lay_keeps o brk k d (prospective st.column) m rest st
+lay_keeps o brk k (Indented how d) i m rest st = lay_keeps o brk k d (indent_by how i st.column) m rest st
 lay_keeps o brk k (Flatten d) i m rest st = lay_keeps o brk k d i Flat rest st
 lay_keeps o brk k (BreakOrFlat b f) i Break rest st = leaves-more _ _ (lay o brk b i Break rest st) (omega arith)
     (lay_keeps o brk k b i Break rest st)
@@ -102,14 +101,9 @@ lay_keeps o brk k (PartialUnion l r) i Break rest st =
     (leaves-more _ _ (lay o brk r i Break rest st) (omega arith) (lay_keeps o brk k r i Break rest st))
 lay_keeps o brk k (PartialUnion l r) i Flat rest st = leaves-more _ _ (lay o brk l i Flat rest st) (omega arith)
     (lay_keeps o brk k l i Flat rest st)
-lay_keeps o brk k (OnColumn test l r) i m rest st =
-    holds-either (LeavesAtMost (suffixes l + suffixes r + queued st.pending)) (column_holds test (prospective st.column) i)
+lay_keeps o brk k (Chosen test l r) i m rest st =
+    holds-either (LeavesAtMost (suffixes l + suffixes r + queued st.pending)) (choice_holds test (prospective st.column) i)
     (lay o brk l i m rest st) (lay o brk r i m rest st)
-    (leaves-more _ _ (lay o brk l i m rest st) (omega arith) (lay_keeps o brk k l i m rest st))
-    (leaves-more _ _ (lay o brk r i m rest st) (omega arith) (lay_keeps o brk k r i m rest st))
-lay_keeps o brk k (OnNesting test l r) i m rest st =
-    holds-either (LeavesAtMost (suffixes l + suffixes r + queued st.pending)) (nesting_holds test i) (lay o brk l i m rest st)
-    (lay o brk r i m rest st)
     (leaves-more _ _ (lay o brk l i m rest st) (omega arith) (lay_keeps o brk k l i m rest st))
     (leaves-more _ _ (lay o brk r i m rest st) (omega arith) (lay_keeps o brk k r i m rest st))
 lay_keeps o brk k _ i m rest st = omega arith
@@ -160,9 +154,7 @@ lay_agrees o {h} {a} {b} e (Append x y) i m rest st l =
     (lay_keeps o a e.keeps x i m (entry i y ∷ rest) st)
     (λ u q. lay_agrees o e y i m rest u (omega arith))
     ∙ ap (λ (x : Outcome). and_then x (λ u. lay o b y i m rest u)) (lay_agrees o e x i m (entry i y ∷ rest) st (omega arith))
-lay_agrees o e (Nest n d) i m rest st l = lay_agrees o e d (nested i n) m rest st l
-lay_agrees o e (DedentToRoot d) i m rest st l = lay_agrees o e d 0 m rest st l
-lay_agrees o e (Align d) i m rest st l = lay_agrees o e d (prospective st.column) m rest st l
+lay_agrees o e (Indented how d) i m rest st l = lay_agrees o e d (indent_by how i st.column) m rest st l
 lay_agrees o e (Flatten d) i m rest st l = lay_agrees o e d i Flat rest st l
 lay_agrees o e (BreakOrFlat x y) i Break rest st l = lay_agrees o e x i Break rest st (omega arith)
 lay_agrees o e (BreakOrFlat x y) i Flat rest st l = lay_agrees o e y i Flat rest st (omega arith)
@@ -178,12 +170,9 @@ lay_agrees o {h} {a} {b} e (PartialUnion x y) i Break rest st l =
     (lay o b y i Break rest st)
     (lay_agrees o e x i Break rest st (omega arith)) (lay_agrees o e y i Break rest st (omega arith))
 lay_agrees o e (PartialUnion x y) i Flat rest st l = lay_agrees o e x i Flat rest st (omega arith)
-lay_agrees o {h} {a} {b} e (OnColumn test x y) i m rest st l =
-    same-either (column_holds test (prospective st.column) i) (lay o a x i m rest st) (lay o a y i m rest st) (lay o b x i m rest st)
+lay_agrees o {h} {a} {b} e (Chosen test x y) i m rest st l =
+    same-either (choice_holds test (prospective st.column) i) (lay o a x i m rest st) (lay o a y i m rest st) (lay o b x i m rest st)
     (lay o b y i m rest st)
-    (lay_agrees o e x i m rest st (omega arith)) (lay_agrees o e y i m rest st (omega arith))
-lay_agrees o {h} {a} {b} e (OnNesting test x y) i m rest st l =
-    same-either (nesting_holds test i) (lay o a x i m rest st) (lay o a y i m rest st) (lay o b x i m rest st) (lay o b y i m rest st)
     (lay_agrees o e x i m rest st (omega arith)) (lay_agrees o e y i m rest st (omega arith))
 lay_agrees o e _ i m rest st l = refl
 
@@ -290,16 +279,13 @@ end_fixed o st = end_fixed_at o (queued st.pending) st.pending st (omega arith)
 pub suffixes_size : (d : Tree) → suffixes d < size d
 suffixes_size (Append l r) = omega (arith, suffixes_size l, suffixes_size r)
 suffixes_size (LineSuffix d) = omega (arith, suffixes_size d)
-suffixes_size (Nest k d) = omega (arith, suffixes_size d)
-suffixes_size (DedentToRoot d) = omega (arith, suffixes_size d)
-suffixes_size (Align d) = omega (arith, suffixes_size d)
+suffixes_size (Indented how d) = omega (arith, suffixes_size d)
 suffixes_size (Flatten d) = omega (arith, suffixes_size d)
 suffixes_size (BreakOrFlat l r) = omega (arith, suffixes_size l, suffixes_size r)
 suffixes_size (Group d) = omega (arith, suffixes_size d)
 suffixes_size (Union l r) = omega (arith, suffixes_size l, suffixes_size r)
 suffixes_size (PartialUnion l r) = omega (arith, suffixes_size l, suffixes_size r)
-suffixes_size (OnColumn test l r) = omega (arith, suffixes_size l, suffixes_size r)
-suffixes_size (OnNesting test l r) = omega (arith, suffixes_size l, suffixes_size r)
+suffixes_size (Chosen test l r) = omega (arith, suffixes_size l, suffixes_size r)
 suffixes_size _ = omega arith
 
 layout_at : (o : RenderOptions) (n : ℕ) (d : Tree) → suffixes d ≤ n

@@ -17,11 +17,11 @@ use Rattle.prettyless_model.specs.declared.metrics.Metrics.{Metrics}
 use Rattle.prettyless_model.specs.declared.mode.Mode.{Mode}
 use Rattle.prettyless_model.specs.declared.mode.Mode.TheVariants.{Break, Flat}
 use Rattle.prettyless_model.specs.Tree.{Tree, Nil, Fail, Text, TextWithLen, MultilineText, WeakSpace, HardLine, WeakLine, Append}
-use Rattle.prettyless_model.specs.Tree.{LineSuffix, Nest, DedentToRoot, Align, ExpandParent, Flatten, BreakOrFlat, Group, Union}
-use Rattle.prettyless_model.specs.Tree.{PartialUnion, OnColumn, OnNesting, size}
-use Rattle.prettyless_model.specs.Column.{start, gap, blank, commit, deferred, indented, prospective, nested}
+use Rattle.prettyless_model.specs.Tree.{LineSuffix, Indented, ExpandParent, Flatten, BreakOrFlat, Group, Union, PartialUnion, Chosen, size}
+use Rattle.prettyless_model.specs.Column.{start, gap, blank, commit, deferred, indented, prospective}
 use Rattle.prettyless_model.specs.Metrics.{metrics}
-use Rattle.prettyless_model.specs.Choice.{column_holds, nesting_holds}
+use Rattle.prettyless_model.specs.Indent.{indent_by}
+use Rattle.prettyless_model.specs.Choice.{choice_holds}
 use Rattle.prettyless_model.specs.Look.{by_mode}
 use Rattle.prettyless_model.specs.Layout.{State, Outcome, Done, Failed, Entry, Breaks, Whole, after_bytes, and_then, lay, lay_each}
 use Rattle.prettyless_model.specs.Layout.{lay_text, lay_payload, lay_ending, payload_fits, after_payload, probe, in_trial, flushed}
@@ -408,9 +408,7 @@ lay_follows o {brk} k (Append x y) i m rest {st} items {p} {ws} {g} h s =
     (lay_follows o k x i m (entry i y ∷ rest) h.0 h.2 s)
     (λ q vs e z stands. lay_follows o k y i m rest h.1 h.3 stands))
 lay_follows o k (LineSuffix d) i m rest items {p} {ws} h s = suffix_follows ws h.0 d h.1 h.2 h.3 s
-lay_follows o k (Nest j d) i m rest items h s = lay_follows o k d (nested i j) m rest items h s
-lay_follows o k (DedentToRoot d) i m rest items h s = lay_follows o k d 0 m rest items h s
-lay_follows o k (Align d) i m rest {st} items h s = lay_follows o k d (prospective st.column) m rest items h s
+lay_follows o k (Indented how d) i m rest {st} items h s = lay_follows o k d (indent_by how i st.column) m rest items h s
 lay_follows o k ExpandParent i m rest items h s = nothing_follows h s
 lay_follows o k (Flatten d) i m rest items h s = lay_follows o k d i Flat rest items h s
 lay_follows o {brk} k (BreakOrFlat x y) i Break rest {st} items {p} {ws} {g} h s =
@@ -433,12 +431,8 @@ lay_follows o {brk} k (PartialUnion x y) i Break rest {st} items {p} {ws} {g} h 
     (implied_follows p ws g h.1 items (lay o brk y i Break rest st) h.5 (lay_follows o k y i Break rest h.1 h.3 s))
 lay_follows o {brk} k (PartialUnion x y) i Flat rest {st} items {p} {ws} {g} h s =
     implied_follows p ws g h.0 items (lay o brk x i Flat rest st) h.4 (lay_follows o k x i Flat rest h.0 h.2 s)
-lay_follows o {brk} k (OnColumn test x y) i m rest {st} items {p} {ws} {g} h s =
-    holds-either (Follows p ws g items) (column_holds test (prospective st.column) i) (lay o brk x i m rest st) (lay o brk y i m rest st)
-    (implied_follows p ws g h.0 items (lay o brk x i m rest st) h.4 (lay_follows o k x i m rest h.0 h.2 s))
-    (implied_follows p ws g h.1 items (lay o brk y i m rest st) h.5 (lay_follows o k y i m rest h.1 h.3 s))
-lay_follows o {brk} k (OnNesting test x y) i m rest {st} items {p} {ws} {g} h s =
-    holds-either (Follows p ws g items) (nesting_holds test i) (lay o brk x i m rest st) (lay o brk y i m rest st)
+lay_follows o {brk} k (Chosen test x y) i m rest {st} items {p} {ws} {g} h s =
+    holds-either (Follows p ws g items) (choice_holds test (prospective st.column) i) (lay o brk x i m rest st) (lay o brk y i m rest st)
     (implied_follows p ws g h.0 items (lay o brk x i m rest st) h.4 (lay_follows o k x i m rest h.0 h.2 s))
     (implied_follows p ws g h.1 items (lay o brk y i m rest st) h.5 (lay_follows o k y i m rest h.1 h.3 s))
 

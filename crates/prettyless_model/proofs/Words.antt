@@ -1,7 +1,7 @@
 -- Words: what documents spell in a row, and what one with no line suffix spells in parts.
 use Rattle.std.proofs.Common.{◌≡◌, ℕ, List, [], ◌∷◌, ◌++◌, refl, ap, sym, ◌∙◌, append_assoc, append-nil, arith}
-use Rattle.prettyless_model.specs.Tree.{Tree, Nil, Fail, Append, LineSuffix, Nest, DedentToRoot, Align, Flatten, BreakOrFlat, Group, Union}
-use Rattle.prettyless_model.specs.Tree.{PartialUnion, OnColumn, OnNesting}
+use Rattle.prettyless_model.specs.Tree.{Tree, Nil, Fail, Append, LineSuffix, Indented, Flatten, BreakOrFlat, Group, Union, PartialUnion}
+use Rattle.prettyless_model.specs.Tree.{Chosen}
 use Rattle.prettyless_model.specs.Spelling.{spells, spelled_parts}
 use Rattle.prettyless_model.specs.Content.{suffix_depth}
 
@@ -26,14 +26,11 @@ parts_in_order Fail w h l = tt
 parts_in_order (Append x y) w h l =
     (h.0, [], h.1, [], parts_in_order x h.0 h.2 (omega arith), parts_in_order y h.1 h.3 (omega arith), h.4, refl)
 parts_in_order (LineSuffix d) w h l = absurd (omega arith)
-parts_in_order (Nest k d) w h l = parts_in_order d w h l
-parts_in_order (DedentToRoot d) w h l = parts_in_order d w h l
-parts_in_order (Align d) w h l = parts_in_order d w h l
+parts_in_order (Indented how d) w h l = parts_in_order d w h l
 parts_in_order (Flatten d) w h l = parts_in_order d w h l
 parts_in_order (BreakOrFlat x y) w h l = (parts_in_order x w h.0 (omega arith), parts_in_order y w h.1 (omega arith))
 parts_in_order (Group d) w h l = parts_in_order d w h l
 parts_in_order (Union x y) w h l = (parts_in_order x w h.0 (omega arith), parts_in_order y w h.1 (omega arith))
 parts_in_order (PartialUnion x y) w h l = (parts_in_order x w h.0 (omega arith), parts_in_order y w h.1 (omega arith))
-parts_in_order (OnColumn test x y) w h l = (parts_in_order x w h.0 (omega arith), parts_in_order y w h.1 (omega arith))
-parts_in_order (OnNesting test x y) w h l = (parts_in_order x w h.0 (omega arith), parts_in_order y w h.1 (omega arith))
+parts_in_order (Chosen test x y) w h l = (parts_in_order x w h.0 (omega arith), parts_in_order y w h.1 (omega arith))
 parts_in_order _ w h l = (h, refl)

@@ -15,3 +15,13 @@ column_holds by_column.IsNesting column indent = column == indent
 abbrev pub nesting_holds : NestingTest → ℕ → Bool
 nesting_holds (by_nesting.AtMost limit) indent = nat_le indent limit
 nesting_holds (by_nesting.AtLeast limit) indent = nat_le limit indent
+
+-- what a choice between two documents asks: of the column, or of the indent alone
+pub data ChoiceTest : Type 0 where
+  OnColumn : ColumnTest → ChoiceTest
+  OnNesting : NestingTest → ChoiceTest
+
+-- of either, from both
+abbrev pub choice_holds : ChoiceTest → ℕ → ℕ → Bool
+choice_holds (OnColumn test) column indent = column_holds test column indent
+choice_holds (OnNesting test) column indent = nesting_holds test indent

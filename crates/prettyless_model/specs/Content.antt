@@ -2,8 +2,7 @@
 -- each text whole, with such gaps between them.
 use Rattle.std.specs.Prelude.{◌≡◌, ℕ, ◌+◌, ◌≤◌, max, ◌==◌, List, [], ◌∷◌, ◌++◌, Option, Some, ◌⊎◌, ⊤, count_by}
 use Rattle.prettyless_model.specs.declared.options.RenderOptions.{RenderOptions}
-use Rattle.prettyless_model.specs.Tree.{Tree, Append, LineSuffix, Nest, DedentToRoot, Align, Flatten, BreakOrFlat, Group, Union}
-use Rattle.prettyless_model.specs.Tree.{PartialUnion, OnColumn, OnNesting}
+use Rattle.prettyless_model.specs.Tree.{Tree, Append, LineSuffix, Indented, Flatten, BreakOrFlat, Group, Union, PartialUnion, Chosen}
 use Rattle.prettyless_model.specs.Layout.{Whole, layout}
 use Rattle.prettyless_model.specs.Spelling.{ink, spells, spelled_parts}
 use Rattle.prettyless_model.specs.Shows.{Item, AreShown, shows}
@@ -12,16 +11,13 @@ use Rattle.prettyless_model.specs.Shows.{Item, AreShown, shows}
 abbrev pub suffix_depth : Tree → ℕ
 suffix_depth (Append l r) = max (suffix_depth l) (suffix_depth r)
 suffix_depth (LineSuffix d) = suffix_depth d + 1
-suffix_depth (Nest k d) = suffix_depth d
-suffix_depth (DedentToRoot d) = suffix_depth d
-suffix_depth (Align d) = suffix_depth d
+suffix_depth (Indented how d) = suffix_depth d
 suffix_depth (Flatten d) = suffix_depth d
 suffix_depth (BreakOrFlat b f) = max (suffix_depth b) (suffix_depth f)
 suffix_depth (Group d) = suffix_depth d
 suffix_depth (Union l r) = max (suffix_depth l) (suffix_depth r)
 suffix_depth (PartialUnion l r) = max (suffix_depth l) (suffix_depth r)
-suffix_depth (OnColumn test y n) = max (suffix_depth y) (suffix_depth n)
-suffix_depth (OnNesting test y n) = max (suffix_depth y) (suffix_depth n)
+suffix_depth (Chosen test y n) = max (suffix_depth y) (suffix_depth n)
 suffix_depth _ = 0
 
 -- how often a byte occurs

@@ -4,8 +4,9 @@ use Rattle.std.specs.Prelude.{ℕ, ◌+◌, ◌&&◌, if◌then◌else◌, ◌�
 use Rattle.prettyless_model.specs.declared.options.RenderOptions.{RenderOptions}
 use Rattle.prettyless_model.specs.Tree as t
 use Rattle.prettyless_model.specs.Tree.{Tree}
-use Rattle.prettyless_model.specs.Column.{prospective, padding_fits, nested}
-use Rattle.prettyless_model.specs.Choice.{column_holds, nesting_holds}
+use Rattle.prettyless_model.specs.Column.{prospective, padding_fits}
+use Rattle.prettyless_model.specs.Indent.{indent_by}
+use Rattle.prettyless_model.specs.Choice.{choice_holds}
 use Rattle.prettyless_model.specs.Look.{by_mode}
 use Rattle.prettyless_model.specs.Layout.{State, Outcome, Done, Failed, Entry, entry, lay, probe, some_pending, in_trial, initial}
 use Rattle.prettyless_model.specs.Levels.{settle}
@@ -42,9 +43,7 @@ unfoldable pub tally : RenderOptions → Tree → ℕ → Mode → List Entry �
 tally o (t.Append l r) i m rest st w =
     w (t.Append l r) m + (tally o l i m (entry i r ∷ rest) st w
     + counted_then (lay o (settle o) l i m (entry i r ∷ rest) st) (λ u. tally o r i m rest u w))
-tally o (t.Nest k d) i m rest st w = w (t.Nest k d) m + tally o d (nested i k) m rest st w
-tally o (t.DedentToRoot d) i m rest st w = w (t.DedentToRoot d) m + tally o d 0 m rest st w
-tally o (t.Align d) i m rest st w = w (t.Align d) m + tally o d (prospective st.column) m rest st w
+tally o (t.Indented how d) i m rest st w = w (t.Indented how d) m + tally o d (indent_by how i st.column) m rest st w
 tally o (t.Flatten d) i m rest st w = w (t.Flatten d) m + tally o d i Flat rest st w
 tally o (t.BreakOrFlat b f) i m rest st w =
     w (t.BreakOrFlat b f) m + by_mode m (tally o b i m rest st w) (tally o f i m rest st w)
@@ -58,10 +57,8 @@ tally o (t.PartialUnion l r) i m rest st w =
     w (t.PartialUnion l r) m + by_mode m
     (if probe o l i Break rest st then tally o l i m rest st w else tally o r i m rest st w)
     (tally o l i m rest st w)
-tally o (t.OnColumn test y n) i m rest st w =
-    w (t.OnColumn test y n) m + (if column_holds test (prospective st.column) i then tally o y i m rest st w else tally o n i m rest st w)
-tally o (t.OnNesting test y n) i m rest st w =
-    w (t.OnNesting test y n) m + (if nesting_holds test i then tally o y i m rest st w else tally o n i m rest st w)
+tally o (t.Chosen test y n) i m rest st w =
+    w (t.Chosen test y n) m + (if choice_holds test (prospective st.column) i then tally o y i m rest st w else tally o n i m rest st w)
 -- a node with no document below it, or a line suffix, whose document is laid at the end of the line
 tally o d i m rest st w = w d m
 

@@ -9,9 +9,10 @@ use Rattle.prettyless_model.specs.declared.options.IndentationPolicy.TheVariants
 use Rattle.prettyless_model.specs.Tree as t
 use Rattle.prettyless_model.specs.Tree.{Tree, size}
 use Rattle.prettyless_model.specs.Metrics.{metrics}
-use Rattle.prettyless_model.specs.Column.{start, indented, deferred, gap, prospective, commit, blank, nested, padding_fits, saturating_add}
+use Rattle.prettyless_model.specs.Column.{start, indented, deferred, gap, prospective, commit, blank, padding_fits, saturating_add}
+use Rattle.prettyless_model.specs.Indent.{indent_by}
 use Rattle.prettyless_model.specs.Look.{by_mode, look, answer_of}
-use Rattle.prettyless_model.specs.Choice.{column_holds, nesting_holds}
+use Rattle.prettyless_model.specs.Choice.{choice_holds}
 use Rattle.prettyless_model.specs.declared.column.Column.{Column}
 use Rattle.prettyless_model.specs.declared.metrics.Metrics.{Metrics}
 use Rattle.prettyless_model.specs.declared.mode.Mode.{Mode}
@@ -132,12 +133,8 @@ lay o brk t.WeakLine i m rest st = brk t.WeakLine i m rest st
 lay o brk (t.Append l r) i m rest st = and_then (lay o brk l i m (entry i r ∷ rest) st) (λ u. lay o brk r i m rest u)
 -- a line suffix is kept until the line ends, after those that are kept already
 lay o brk (t.LineSuffix d) i m rest st = Done [] (record st { pending = st.pending ++ d ∷ [] })
--- the indent changes by so many columns
-lay o brk (t.Nest k d) i m rest st = lay o brk d (nested i k) m rest st
--- the indent is 0
-lay o brk (t.DedentToRoot d) i m rest st = lay o brk d 0 m rest st
--- the indent is the column at which the next content would begin
-lay o brk (t.Align d) i m rest st = lay o brk d (prospective st.column) m rest st
+-- the document has the indent that the node sets
+lay o brk (t.Indented how d) i m rest st = lay o brk d (indent_by how i st.column) m rest st
 -- nothing is written; the probe of a group answers no to it
 lay o brk t.ExpandParent i m rest st = Done [] st
 -- the document is laid flat
@@ -152,11 +149,9 @@ lay o brk (t.Union l r) i m rest st =
 -- the first branch where its first line fits, else the second; on a flat line, the first
 lay o brk (t.PartialUnion l r) i m rest st =
     by_mode m (if probe o l i Break rest st then lay o brk l i m rest st else lay o brk r i m rest st) (lay o brk l i m rest st)
--- the first document where the test of the column at which the next content would begin holds, else the second
-lay o brk (t.OnColumn test y n) i m rest st =
-    if column_holds test (prospective st.column) i then lay o brk y i m rest st else lay o brk n i m rest st
--- the first document where the test of the indent holds, else the second
-lay o brk (t.OnNesting test y n) i m rest st = if nesting_holds test i then lay o brk y i m rest st else lay o brk n i m rest st
+-- the first document where the test holds of the column at which the next content would begin, and the indent; else the second
+lay o brk (t.Chosen test y n) i m rest st =
+    if choice_holds test (prospective st.column) i then lay o brk y i m rest st else lay o brk n i m rest st
 
 -- trees one after another at one indent, each with the later ones following
 unfoldable pub lay_each : RenderOptions → Breaks → List Tree → ℕ → Mode → List Entry → State → Outcome

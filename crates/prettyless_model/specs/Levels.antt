@@ -1,24 +1,20 @@
 -- How many levels a layout can spend, and breaks that have as many as they need.
 use Rattle.std.specs.Prelude.{◌≡◌, ℕ, suc, ◌+◌, ◌<◌, List, [], ◌∷◌}
 use Rattle.prettyless_model.specs.declared.options.RenderOptions.{RenderOptions}
-use Rattle.prettyless_model.specs.Tree.{Tree, Append, LineSuffix, Nest, DedentToRoot, Align, Flatten, BreakOrFlat, Group, Union}
-use Rattle.prettyless_model.specs.Tree.{PartialUnion, OnColumn, OnNesting, size}
+use Rattle.prettyless_model.specs.Tree.{Tree, Append, LineSuffix, Indented, Flatten, BreakOrFlat, Group, Union, PartialUnion, Chosen, size}
 use Rattle.prettyless_model.specs.Layout.{State, Outcome, Breaks, breaks, finish, layout_by, layout, bytes_of}
 
 -- how many LineSuffix nodes a tree has, those inside another too
 abbrev pub suffixes : Tree → ℕ
 suffixes (Append l r) = suffixes l + suffixes r
 suffixes (LineSuffix d) = suffixes d + 1
-suffixes (Nest k d) = suffixes d
-suffixes (DedentToRoot d) = suffixes d
-suffixes (Align d) = suffixes d
+suffixes (Indented how d) = suffixes d
 suffixes (Flatten d) = suffixes d
 suffixes (BreakOrFlat b f) = suffixes b + suffixes f
 suffixes (Group d) = suffixes d
 suffixes (Union l r) = suffixes l + suffixes r
 suffixes (PartialUnion l r) = suffixes l + suffixes r
-suffixes (OnColumn test y n) = suffixes y + suffixes n
-suffixes (OnNesting test y n) = suffixes y + suffixes n
+suffixes (Chosen test y n) = suffixes y + suffixes n
 suffixes _ = 0
 
 -- how many documents the pending ones are, with those that they may leave pending in turn

@@ -3,6 +3,7 @@ pub mod Spaces
 pub mod Tree
 pub mod Metrics
 pub mod Column
+pub mod Indent
 pub mod Choice
 pub mod Look
 pub mod Layout

@@ -2,9 +2,10 @@
 use Rattle.std.specs.Prelude.{ℕ, Bool, true, false, not, ◌&&◌, ◌||◌, nat_le, List, [], ◌∷◌, length, if◌then◌else◌}
 use Rattle.prettyless_model.specs.Tree as t
 use Rattle.prettyless_model.specs.Tree.{Tree}
-use Rattle.prettyless_model.specs.Choice.{column_holds, nesting_holds}
+use Rattle.prettyless_model.specs.Choice.{choice_holds}
 use Rattle.prettyless_model.specs.Metrics.{metrics}
-use Rattle.prettyless_model.specs.Column.{commit, blank, nested, padding_fits, prospective}
+use Rattle.prettyless_model.specs.Column.{commit, blank, padding_fits, prospective}
+use Rattle.prettyless_model.specs.Indent.{indent_by}
 use Rattle.prettyless_model.specs.declared.column.Column.{Column}
 use Rattle.prettyless_model.specs.declared.metrics.Metrics.{Metrics}
 use Rattle.prettyless_model.specs.declared.mode.Mode.{Mode}
@@ -55,15 +56,12 @@ look width t.HardLine i m c p = look_end width m c p
 look width t.WeakLine i m c p = if c.fresh && not p then GoesOn c p else look_end width m c p
 look width (t.Append l r) i m c p = look_then (look width l i m c p) (λ e q. look width r i m e q)
 look width (t.LineSuffix d) i m c p = GoesOn c true
-look width (t.Nest k d) i m c p = look width d (nested i k) m c p
-look width (t.DedentToRoot d) i m c p = look width d 0 m c p
-look width (t.Align d) i m c p = look width d (prospective c) m c p
+look width (t.Indented how d) i m c p = look width d (indent_by how i c) m c p
 look width t.ExpandParent i m c p = by_mode m (GoesOn c p) (Answers false)
 look width (t.Flatten d) i m c p = look width d i Flat c p
 look width (t.BreakOrFlat b f) i m c p = by_mode m (look width b i m c p) (look width f i m c p)
 look width (t.Group d) i m c p = look width d i m c p
 look width (t.Union l r) i m c p = by_mode m (look width r i m c p) (look width l i m c p)
 look width (t.PartialUnion l r) i m c p = by_mode m (look width r i m c p) (look width l i m c p)
-look width (t.OnColumn test y n) i m c p =
-    if column_holds test (prospective c) i then look width y i m c p else look width n i m c p
-look width (t.OnNesting test y n) i m c p = if nesting_holds test i then look width y i m c p else look width n i m c p
+look width (t.Chosen test y n) i m c p =
+    if choice_holds test (prospective c) i then look width y i m c p else look width n i m c p

@@ -142,17 +142,14 @@ shows t.WeakLine items = items ≡ ended ∷ []
 shows (t.Append l r) items =
     (before : List Item) × (later : List Item) × shows l before × shows r later × (items ≡ before ++ later)
 shows (t.LineSuffix d) items = (inner : List Item) × shows d inner × NoneIsLate inner × (items ≡ map Late inner)
-shows (t.Nest k d) items = shows d items
-shows (t.DedentToRoot d) items = shows d items
-shows (t.Align d) items = shows d items
+shows (t.Indented how d) items = shows d items
 shows t.ExpandParent items = items ≡ []
 shows (t.Flatten d) items = shows d items
 shows (t.BreakOrFlat b f) items = EitherShows (λ xs. shows b xs) (λ ys. shows f ys) items
 shows (t.Group d) items = shows d items
 shows (t.Union l r) items = EitherShows (λ xs. shows l xs) (λ ys. shows r ys) items
 shows (t.PartialUnion l r) items = EitherShows (λ xs. shows l xs) (λ ys. shows r ys) items
-shows (t.OnColumn test y n) items = EitherShows (λ xs. shows y xs) (λ ys. shows n ys) items
-shows (t.OnNesting test y n) items = EitherShows (λ xs. shows y xs) (λ ys. shows n ys) items
+shows (t.Chosen test y n) items = EitherShows (λ xs. shows y xs) (λ ys. shows n ys) items
 
 -- ---- what it is for bytes to show items
 

@@ -20,16 +20,13 @@ spells (t.TextWithLen n s) w = w ≡ ink s
 spells (t.MultilineText s) w = w ≡ ink s
 spells (t.Append l r) w = (v : List ℕ) × (u : List ℕ) × spells l v × spells r u × (w ≡ v ++ u)
 spells (t.LineSuffix d) w = spells d w
-spells (t.Nest k d) w = spells d w
-spells (t.DedentToRoot d) w = spells d w
-spells (t.Align d) w = spells d w
+spells (t.Indented how d) w = spells d w
 spells (t.Flatten d) w = spells d w
 spells (t.BreakOrFlat b f) w = spells b w × spells f w
 spells (t.Group d) w = spells d w
 spells (t.Union l r) w = spells l w × spells r w
 spells (t.PartialUnion l r) w = spells l w × spells r w
-spells (t.OnColumn test y n) w = spells y w × spells n w
-spells (t.OnNesting test y n) w = spells y w × spells n w
+spells (t.Chosen test y n) w = spells y w × spells n w
 spells _ w = w ≡ []
 
 -- the same with two words: outside line suffixes, and inside them
@@ -42,14 +39,11 @@ spelled_parts (t.Append l r) v u =
     (v1 : List ℕ) × (u1 : List ℕ) × (v2 : List ℕ) × (u2 : List ℕ) × spelled_parts l v1 u1 × spelled_parts r v2 u2 × (v ≡ v1 ++ v2)
     × (u ≡ u1 ++ u2)
 spelled_parts (t.LineSuffix d) v u = (v ≡ []) × spells d u
-spelled_parts (t.Nest k d) v u = spelled_parts d v u
-spelled_parts (t.DedentToRoot d) v u = spelled_parts d v u
-spelled_parts (t.Align d) v u = spelled_parts d v u
+spelled_parts (t.Indented how d) v u = spelled_parts d v u
 spelled_parts (t.Flatten d) v u = spelled_parts d v u
 spelled_parts (t.BreakOrFlat b f) v u = spelled_parts b v u × spelled_parts f v u
 spelled_parts (t.Group d) v u = spelled_parts d v u
 spelled_parts (t.Union l r) v u = spelled_parts l v u × spelled_parts r v u
 spelled_parts (t.PartialUnion l r) v u = spelled_parts l v u × spelled_parts r v u
-spelled_parts (t.OnColumn test y n) v u = spelled_parts y v u × spelled_parts n v u
-spelled_parts (t.OnNesting test y n) v u = spelled_parts y v u × spelled_parts n v u
+spelled_parts (t.Chosen test y n) v u = spelled_parts y v u × spelled_parts n v u
 spelled_parts _ v u = (v ≡ []) × (u ≡ [])

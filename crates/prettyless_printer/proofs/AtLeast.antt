@@ -8,11 +8,11 @@ use Rattle.prettyless_model.specs.Spaces.{spaces}
 use Rattle.prettyless_model.specs.declared.options.RenderOptions.{RenderOptions}
 use Rattle.prettyless_sink.specs.declared.visits.Visits.{Visits}
 use Rattle.prettyless_model.specs.Tree.{Tree, Fail, Text, TextWithLen, MultilineText, HardLine, WeakLine, Append}
-use Rattle.prettyless_model.specs.Tree.{Nest, DedentToRoot, Align, Flatten, BreakOrFlat, Group, Union}
-use Rattle.prettyless_model.specs.Tree.{PartialUnion, OnColumn, OnNesting}
-use Rattle.prettyless_model.specs.Choice.{column_holds, nesting_holds}
+use Rattle.prettyless_model.specs.Tree.{Indented, Flatten, BreakOrFlat, Group, Union, PartialUnion, Chosen}
+use Rattle.prettyless_model.specs.Indent.{indent_by}
+use Rattle.prettyless_model.specs.Choice.{choice_holds}
 use Rattle.prettyless_model.specs.Metrics.{metrics}
-use Rattle.prettyless_model.specs.Column.{gap, prospective, padding_fits, nested}
+use Rattle.prettyless_model.specs.Column.{gap, prospective, padding_fits}
 use Rattle.prettyless_model.specs.Look.{by_mode}
 use Rattle.prettyless_model.specs.Layout.{State, Outcome, Done, Failed, Entry, after_bytes, and_then, accept, lay, lay_each, lay_text}
 use Rattle.prettyless_model.specs.Layout.{lay_payload, payload_fits, after_payload, probe, some_pending, in_trial, initial, flushed, entry}
@@ -193,9 +193,7 @@ module _ (o : RenderOptions) (n : ℕ) (ts : List Task) (st : State) (w : Weight
       let b = appended out (λ u. tally o r i m (follow ts) u w) (λ u. counted_then (lay o (settle o) r i m (follow ts) u) next)
       (λ u. tally_above o n (make_task i m r ∷ ts) u w) (λ u. above_is o n (make_task i m r) ts u w h) in
       omega (arith, a, b, above_is o n (make_task i m l) (make_task i m r ∷ ts) st w (omega (arith, h)))
-  step_counts (Nest k d) i m = omega (arith, first_is (make_task (nested i k) m d))
-  step_counts (DedentToRoot d) i m = omega (arith, first_is (make_task 0 m d))
-  step_counts (Align d) i m = omega (arith, first_is (make_task (prospective st.column) m d))
+  step_counts (Indented how d) i m = omega (arith, first_is (make_task (indent_by how i st.column) m d))
   step_counts (Flatten d) i m = omega (arith, first_is (make_task i Flat d))
   step_counts (BreakOrFlat b f) i Break = omega (arith, first_is (make_task i Break b))
   step_counts (BreakOrFlat b f) i Flat = omega (arith, first_is (make_task i Flat f))
@@ -207,8 +205,7 @@ module _ (o : RenderOptions) (n : ℕ) (ts : List Task) (st : State) (w : Weight
   step_counts (Union l r) i Flat = omega (arith, first_is (make_task i Flat l))
   step_counts (PartialUnion l r) i Break = omega (arith, either_counts l r i Break (probe o l i Break (follow ts) st))
   step_counts (PartialUnion l r) i Flat = omega (arith, first_is (make_task i Flat l))
-  step_counts (OnColumn test l r) i m = omega (arith, either_counts l r i m (column_holds test (prospective st.column) i))
-  step_counts (OnNesting test l r) i m = omega (arith, either_counts l r i m (nesting_holds test i))
+  step_counts (Chosen test l r) i m = omega (arith, either_counts l r i m (choice_holds test (prospective st.column) i))
   step_counts _ i m = omega arith
 
 -- ---- Counts in a row

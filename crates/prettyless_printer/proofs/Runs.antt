@@ -5,11 +5,11 @@ use Rattle.prettyless_model.specs.declared.options.RenderOptions.{RenderOptions}
 use Rattle.prettyless_model.specs.declared.options.IndentationPolicy.{IndentationPolicy}
 use Rattle.prettyless_model.specs.declared.options.IndentationPolicy.TheVariants.{Eager, Deferred}
 use Rattle.prettyless_model.specs.Tree.{Tree, Nil, Fail, Text, TextWithLen, MultilineText, WeakSpace, HardLine, WeakLine, Append}
-use Rattle.prettyless_model.specs.Tree.{LineSuffix, Nest, DedentToRoot, Align, ExpandParent, Flatten, BreakOrFlat, Group, Union}
-use Rattle.prettyless_model.specs.Tree.{PartialUnion, OnColumn, OnNesting}
-use Rattle.prettyless_model.specs.Choice.{column_holds, nesting_holds}
+use Rattle.prettyless_model.specs.Tree.{LineSuffix, Indented, ExpandParent, Flatten, BreakOrFlat, Group, Union, PartialUnion, Chosen}
+use Rattle.prettyless_model.specs.Indent.{indent_by}
+use Rattle.prettyless_model.specs.Choice.{choice_holds}
 use Rattle.prettyless_model.specs.Metrics.{metrics}
-use Rattle.prettyless_model.specs.Column.{gap, prospective, start, commit, padding_fits, nested}
+use Rattle.prettyless_model.specs.Column.{gap, prospective, start, commit, padding_fits}
 use Rattle.prettyless_model.specs.declared.metrics.Metrics.{Metrics}
 use Rattle.prettyless_model.specs.Look.{by_mode}
 use Rattle.prettyless_model.specs.Layout.{State, Outcome, Done, Failed, Entry, Breaks, after_bytes, and_then, lay, lay_each, lay_text}
@@ -180,9 +180,7 @@ step_runs o brk fixed (Append l r) i m ts outer st =
     (λ u. lay_all o brk ts outer u)
     ∙ moved o brk (make_task i m l ∷ make_task i m r ∷ ts) outer st
 step_runs o brk fixed (LineSuffix d) i m ts outer st = refl
-step_runs o brk fixed (Nest k d) i m ts outer st = moved o brk (make_task (nested i k) m d ∷ ts) outer st
-step_runs o brk fixed (DedentToRoot d) i m ts outer st = moved o brk (make_task 0 m d ∷ ts) outer st
-step_runs o brk fixed (Align d) i m ts outer st = moved o brk (make_task (prospective st.column) m d ∷ ts) outer st
+step_runs o brk fixed (Indented how d) i m ts outer st = moved o brk (make_task (indent_by how i st.column) m d ∷ ts) outer st
 step_runs o brk fixed ExpandParent i m ts outer st = refl
 step_runs o brk fixed (Flatten d) i m ts outer st = moved o brk (make_task i Flat d ∷ ts) outer st
 step_runs o brk fixed (BreakOrFlat b f) i Break ts outer st = moved o brk (make_task i Break b ∷ ts) outer st
@@ -194,6 +192,5 @@ step_runs o brk fixed (Union l r) i Flat ts outer st = moved o brk (make_task i 
 step_runs o brk fixed (PartialUnion l r) i Break ts outer st =
     either_runs o brk l r i Break ts outer st (probe o l i Break (follow ts ++ outer) st)
 step_runs o brk fixed (PartialUnion l r) i Flat ts outer st = moved o brk (make_task i Flat l ∷ ts) outer st
-step_runs o brk fixed (OnColumn test l r) i m ts outer st =
-    either_runs o brk l r i m ts outer st (column_holds test (prospective st.column) i)
-step_runs o brk fixed (OnNesting test l r) i m ts outer st = either_runs o brk l r i m ts outer st (nesting_holds test i)
+step_runs o brk fixed (Chosen test l r) i m ts outer st =
+    either_runs o brk l r i m ts outer st (choice_holds test (prospective st.column) i)

@@ -5,9 +5,9 @@ use Rattle.prettyless_model.specs.declared.options.RenderOptions.{RenderOptions}
 use Rattle.prettyless_model.specs.declared.options.IndentationPolicy.{IndentationPolicy}
 use Rattle.prettyless_model.specs.declared.options.IndentationPolicy.TheVariants.{Eager, Deferred}
 use Rattle.prettyless_model.specs.Tree.{Tree, Nil, Fail, Text, TextWithLen, MultilineText, WeakSpace, HardLine, WeakLine, Append}
-use Rattle.prettyless_model.specs.Tree.{LineSuffix, Nest, DedentToRoot, Align, ExpandParent, Flatten, BreakOrFlat, Group, Union}
-use Rattle.prettyless_model.specs.Tree.{PartialUnion, OnColumn, OnNesting, size}
-use Rattle.prettyless_model.specs.Choice.{column_holds, nesting_holds}
+use Rattle.prettyless_model.specs.Tree.{LineSuffix, Indented, ExpandParent, Flatten, BreakOrFlat, Group, Union, PartialUnion, Chosen}
+use Rattle.prettyless_model.specs.Tree.{size}
+use Rattle.prettyless_model.specs.Choice.{choice_holds}
 use Rattle.prettyless_model.specs.Column.{prospective}
 use Rattle.prettyless_model.specs.Metrics.{metrics}
 use Rattle.prettyless_model.specs.Layout.{State, Done, Entry, lay_text, lay_ending, next_indent, is_suppressed, plain_break, payload_fits}
@@ -92,9 +92,7 @@ step_less o HardLine i Flat rest st = tt
 step_less o WeakLine i m rest st = break_less o st.pending WeakLine i m rest st (omega arith) (omega arith)
 step_less o (Append l r) i m rest st = omega arith
 step_less o (LineSuffix d) i m rest st = omega (arith, pending_work-one st.pending d)
-step_less o (Nest k d) i m rest st = omega arith
-step_less o (DedentToRoot d) i m rest st = omega arith
-step_less o (Align d) i m rest st = omega arith
+step_less o (Indented how d) i m rest st = omega arith
 step_less o ExpandParent i m rest st = omega arith
 step_less o (Flatten d) i m rest st = omega arith
 step_less o (BreakOrFlat b f) i Break rest st = omega arith
@@ -105,10 +103,8 @@ step_less o (Union l r) i Flat rest st = omega arith
 step_less o (PartialUnion l r) i Break rest st =
     omega (arith, either_less l r (2 * size l + 2 * size r + 1) (probe o l i Break rest st) (omega arith))
 step_less o (PartialUnion l r) i Flat rest st = omega arith
-step_less o (OnColumn test l r) i m rest st =
-    omega (arith, either_less l r (2 * size l + 2 * size r + 1) (column_holds test (prospective st.column) i) (omega arith))
-step_less o (OnNesting test l r) i m rest st =
-    omega (arith, either_less l r (2 * size l + 2 * size r + 1) (nesting_holds test i) (omega arith))
+step_less o (Chosen test l r) i m rest st =
+    omega (arith, either_less l r (2 * size l + 2 * size r + 1) (choice_holds test (prospective st.column) i) (omega arith))
 
 -- ---- visits
 

@@ -8,9 +8,9 @@ use Rattle.prettyless_sink.specs.Sink.{rise}
 use Rattle.prettyless_sink.specs.declared.visits.Visits.{Visits}
 use Rattle.prettyless_model.specs.Tree.{Tree, Fail, Text, TextWithLen, MultilineText, HardLine, WeakLine}
 use Rattle.prettyless_model.specs.Tree.{LineSuffix, BreakOrFlat, Group, Union}
-use Rattle.prettyless_model.specs.Tree.{PartialUnion, OnColumn, OnNesting, size, probed}
+use Rattle.prettyless_model.specs.Tree.{PartialUnion, Chosen, size, probed}
 use Rattle.prettyless_model.specs.Content.{suffix_depth}
-use Rattle.prettyless_model.specs.Choice.{column_holds, nesting_holds}
+use Rattle.prettyless_model.specs.Choice.{choice_holds}
 use Rattle.prettyless_model.specs.Column.{prospective}
 use Rattle.prettyless_model.specs.Layout.{State, Done, lay_text, lay_ending, next_indent, is_suppressed, probe}
 use Rattle.prettyless_model.specs.declared.mode.Mode.{Mode}
@@ -118,11 +118,8 @@ module _ (o : RenderOptions) (ts : List Task) (st : State) (n : ℕ) (none : st.
   step_at_most (PartialUnion a b) i Break z l =
       let e = either_at_most n a b i Break (probe o a i Break (follow ts) st) (omega arith) in
       (e.0, none, omega (arith, e.1))
-  step_at_most (OnColumn test a b) i m z l =
-      let e = either_at_most n a b i m (column_holds test (prospective st.column) i) (omega arith) in
-      (e.0, none, omega (arith, e.1))
-  step_at_most (OnNesting test a b) i m z l =
-      let e = either_at_most n a b i m (nesting_holds test i) (omega arith) in
+  step_at_most (Chosen test a b) i m z l =
+      let e = either_at_most n a b i m (choice_holds test (prospective st.column) i) (omega arith) in
       (e.0, none, omega (arith, e.1))
   step_at_most _ i m z l = (omega arith, none, omega arith)
 

@@ -5,11 +5,11 @@ use Rattle.prettyless_model.specs.declared.options.RenderOptions.{RenderOptions}
 use Rattle.prettyless_model.specs.declared.options.IndentationPolicy.{IndentationPolicy}
 use Rattle.prettyless_model.specs.declared.options.IndentationPolicy.TheVariants.{Eager, Deferred}
 use Rattle.prettyless_model.specs.Tree.{Tree, Nil, Fail, Text, TextWithLen, MultilineText, WeakSpace, HardLine, WeakLine, Append}
-use Rattle.prettyless_model.specs.Tree.{LineSuffix, Nest, DedentToRoot, Align, ExpandParent, Flatten, BreakOrFlat, Group, Union}
-use Rattle.prettyless_model.specs.Tree.{PartialUnion, OnColumn, OnNesting}
+use Rattle.prettyless_model.specs.Tree.{LineSuffix, Indented, ExpandParent, Flatten, BreakOrFlat, Group, Union, PartialUnion, Chosen}
 use Rattle.prettyless_model.specs.Metrics.{metrics}
-use Rattle.prettyless_model.specs.Choice.{column_holds, nesting_holds}
-use Rattle.prettyless_model.specs.Column.{gap, commit, prospective, padding_fits, nested}
+use Rattle.prettyless_model.specs.Indent.{indent_by}
+use Rattle.prettyless_model.specs.Choice.{choice_holds}
+use Rattle.prettyless_model.specs.Column.{gap, commit, prospective, padding_fits}
 use Rattle.prettyless_model.specs.Look.{by_mode}
 use Rattle.prettyless_model.specs.Layout.{State, Outcome, Done, Failed, Entry, Breaks, after_bytes, and_then, lay, lay_each, lay_text}
 use Rattle.prettyless_model.specs.Layout.{lay_ending, payload_fits, probe, some_pending, accept, in_trial, is_suppressed, flushed, entry}
@@ -72,9 +72,7 @@ lay_past o brk k (Append l r) i m rest st h =
     past-then (lay o brk l i m (entry i r ∷ rest) st) (λ u. lay o brk r i m rest u) (lay_past o brk k l i m (entry i r ∷ rest) st h)
     (λ u q. lay_past o brk k r i m rest u q)
 lay_past o brk k (LineSuffix d) i m rest st h = h
-lay_past o brk k (Nest n d) i m rest st h = lay_past o brk k d (nested i n) m rest st h
-lay_past o brk k (DedentToRoot d) i m rest st h = lay_past o brk k d 0 m rest st h
-lay_past o brk k (Align d) i m rest st h = lay_past o brk k d (prospective st.column) m rest st h
+lay_past o brk k (Indented how d) i m rest st h = lay_past o brk k d (indent_by how i st.column) m rest st h
 lay_past o brk k ExpandParent i m rest st h = h
 lay_past o brk k (Flatten d) i m rest st h = lay_past o brk k d i Flat rest st h
 lay_past o brk k (BreakOrFlat b f) i Break rest st h = lay_past o brk k b i Break rest st h
@@ -88,12 +86,9 @@ lay_past o brk k (PartialUnion l r) i Break rest st h =
     past-either (probe o l i Break rest st) (lay o brk l i Break rest st) (lay o brk r i Break rest st)
     (lay_past o brk k l i Break rest st h) (lay_past o brk k r i Break rest st h)
 lay_past o brk k (PartialUnion l r) i Flat rest st h = lay_past o brk k l i Flat rest st h
-lay_past o brk k (OnColumn test l r) i m rest st h =
-    past-either (column_holds test (prospective st.column) i) (lay o brk l i m rest st) (lay o brk r i m rest st)
+lay_past o brk k (Chosen test l r) i m rest st h =
+    past-either (choice_holds test (prospective st.column) i) (lay o brk l i m rest st) (lay o brk r i m rest st)
     (lay_past o brk k l i m rest st h) (lay_past o brk k r i m rest st h)
-lay_past o brk k (OnNesting test l r) i m rest st h =
-    past-either (nesting_holds test i) (lay o brk l i m rest st) (lay o brk r i m rest st) (lay_past o brk k l i m rest st h)
-    (lay_past o brk k r i m rest st h)
 
 each_past : (o : RenderOptions) (brk : Breaks) → StaysPast brk → (ds : List Tree) (i : ℕ) (m : Mode) (rest : List Entry) (st : State)
     → st.within ≡ false → Past (lay_each o brk ds i m rest st)

@@ -93,16 +93,13 @@ with_some false n = omega arith
 -- a document is one node at least
 pub some_read : (sums : Bool) (w : ℕ) (d : Tree) (i : ℕ) (m : Mode) (c : Column) (p : Bool) → 0 < reads sums w d i m c p
 some_read sums w (t.Append l r) i m c p = with_some (sums && has_summary (t.Append l r) m) _
-some_read sums w (t.Nest k d) i m c p = with_some (sums && has_summary (t.Nest k d) m) _
-some_read sums w (t.DedentToRoot d) i m c p = with_some (sums && has_summary (t.DedentToRoot d) m) _
-some_read sums w (t.Align d) i m c p = with_some (sums && has_summary (t.Align d) m) _
+some_read sums w (t.Indented how d) i m c p = with_some (sums && has_summary (t.Indented how d) m) _
 some_read sums w (t.Flatten d) i m c p = with_some (sums && has_summary (t.Flatten d) m) _
 some_read sums w (t.BreakOrFlat b f) i m c p = with_some (sums && has_summary (t.BreakOrFlat b f) m) _
 some_read sums w (t.Group d) i m c p = with_some (sums && has_summary (t.Group d) m) _
 some_read sums w (t.Union l r) i m c p = with_some (sums && has_summary (t.Union l r) m) _
 some_read sums w (t.PartialUnion l r) i m c p = with_some (sums && has_summary (t.PartialUnion l r) m) _
-some_read sums w (t.OnColumn test y n) i m c p = omega arith
-some_read sums w (t.OnNesting test y n) i m c p = omega arith
+some_read sums w (t.Chosen test y n) i m c p = omega arith
 some_read sums w (t.LineSuffix d) i m c p = omega arith
 some_read sums w t.Nil i m c p = omega arith
 some_read sums w t.Fail i m c p = omega arith
@@ -124,16 +121,13 @@ one_alone b n e = rw e refl
 -- a document that has a summary is read as one node
 pub read_known : (w : ℕ) (d : Tree) (i : ℕ) (m : Mode) (c : Column) (p : Bool) → has_summary d m ≡ true → reads true w d i m c p ≡ 1
 read_known w (t.Append l r) i m c p h = one_alone (has_summary (t.Append l r) m) _ h
-read_known w (t.Nest k d) i m c p h = one_alone (has_summary (t.Nest k d) m) _ h
-read_known w (t.DedentToRoot d) i m c p h = one_alone (has_summary (t.DedentToRoot d) m) _ h
-read_known w (t.Align d) i m c p h = one_alone (has_summary (t.Align d) m) _ h
+read_known w (t.Indented how d) i m c p h = one_alone (has_summary (t.Indented how d) m) _ h
 read_known w (t.Flatten d) i m c p h = one_alone (has_summary (t.Flatten d) m) _ h
 read_known w (t.BreakOrFlat b f) i m c p h = one_alone (has_summary (t.BreakOrFlat b f) m) _ h
 read_known w (t.Group d) i m c p h = one_alone (has_summary (t.Group d) m) _ h
 read_known w (t.Union l r) i m c p h = one_alone (has_summary (t.Union l r) m) _ h
 read_known w (t.PartialUnion l r) i m c p h = one_alone (has_summary (t.PartialUnion l r) m) _ h
-read_known w (t.OnColumn test y n) i m c p h = absurd (cc)
-read_known w (t.OnNesting test y n) i m c p h = absurd (cc)
+read_known w (t.Chosen test y n) i m c p h = absurd (cc)
 read_known w (t.LineSuffix d) i m c p h = refl
 read_known w t.Nil i m c p h = refl
 read_known w t.Fail i m c p h = refl

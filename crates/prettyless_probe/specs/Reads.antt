@@ -2,8 +2,9 @@
 use Rattle.std.specs.Prelude.{◌≡◌, ℕ, ◌+◌, ◌-◌, ◌^◌, ◌<◌, min, Bool, IsTrue, true, false, ◌&&◌, List, [], ◌∷◌, Option, Some, None, if◌then◌else◌}
 use Rattle.prettyless_model.specs.Tree as t
 use Rattle.prettyless_model.specs.Tree.{Tree, size}
-use Rattle.prettyless_model.specs.Choice.{column_holds, nesting_holds}
-use Rattle.prettyless_model.specs.Column.{nested, prospective}
+use Rattle.prettyless_model.specs.Choice.{choice_holds}
+use Rattle.prettyless_model.specs.Column.{prospective}
+use Rattle.prettyless_model.specs.Indent.{indent_by}
 use Rattle.prettyless_model.specs.Look.{Look, Answers, GoesOn, by_mode, look}
 use Rattle.prettyless_model.specs.declared.column.Column.{Column}
 use Rattle.prettyless_model.specs.declared.mode.Mode.{Mode}
@@ -29,9 +30,8 @@ abbrev pub reads : Bool → ℕ → Tree → ℕ → Mode → Column → Bool �
 reads sums width (t.Append l r) i m c p =
     with_below (sums && has_summary (t.Append l r) m)
     (reads sums width l i m c p + read_after (look width l i m c p) (λ e q. reads sums width r i m e q))
-reads sums width (t.Nest k d) i m c p = with_below (sums && has_summary (t.Nest k d) m) (reads sums width d (nested i k) m c p)
-reads sums width (t.DedentToRoot d) i m c p = with_below (sums && has_summary (t.DedentToRoot d) m) (reads sums width d 0 m c p)
-reads sums width (t.Align d) i m c p = with_below (sums && has_summary (t.Align d) m) (reads sums width d (prospective c) m c p)
+reads sums width (t.Indented how d) i m c p =
+    with_below (sums && has_summary (t.Indented how d) m) (reads sums width d (indent_by how i c) m c p)
 reads sums width (t.Flatten d) i m c p = with_below (sums && has_summary (t.Flatten d) m) (reads sums width d i Flat c p)
 reads sums width (t.BreakOrFlat b f) i m c p =
     with_below (sums && has_summary (t.BreakOrFlat b f) m) (by_mode m (reads sums width b i m c p) (reads sums width f i m c p))
@@ -40,10 +40,8 @@ reads sums width (t.Union l r) i m c p =
     with_below (sums && has_summary (t.Union l r) m) (by_mode m (reads sums width r i m c p) (reads sums width l i m c p))
 reads sums width (t.PartialUnion l r) i m c p =
     with_below (sums && has_summary (t.PartialUnion l r) m) (by_mode m (reads sums width r i m c p) (reads sums width l i m c p))
-reads sums width (t.OnColumn test y n) i m c p =
-    1 + (if column_holds test (prospective c) i then reads sums width y i m c p else reads sums width n i m c p)
-reads sums width (t.OnNesting test y n) i m c p =
-    1 + (if nesting_holds test i then reads sums width y i m c p else reads sums width n i m c p)
+reads sums width (t.Chosen test y n) i m c p =
+    1 + (if choice_holds test (prospective c) i then reads sums width y i m c p else reads sums width n i m c p)
 -- a node with no document below it, or a line suffix, whose document is read at no time
 reads sums width d i m c p = 1
 

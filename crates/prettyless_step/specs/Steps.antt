@@ -6,8 +6,9 @@ use Rattle.prettyless_model.specs.declared.options.RenderOptions.{RenderOptions}
 use Rattle.prettyless_model.specs.Tree as t
 use Rattle.prettyless_model.specs.Tree.{Tree, size}
 use Rattle.prettyless_model.specs.Metrics.{metrics}
-use Rattle.prettyless_model.specs.Column.{gap, prospective, blank, nested}
-use Rattle.prettyless_model.specs.Choice.{column_holds, nesting_holds}
+use Rattle.prettyless_model.specs.Column.{gap, prospective, blank}
+use Rattle.prettyless_model.specs.Indent.{indent_by}
+use Rattle.prettyless_model.specs.Choice.{choice_holds}
 use Rattle.prettyless_model.specs.Look.{by_mode}
 use Rattle.prettyless_model.specs.Layout.{State, Outcome, Done, Failed, Entry, Breaks, after_bytes, and_then, lay, lay_text, lay_payload}
 use Rattle.prettyless_model.specs.Layout.{payload_fits, plain_break, probe, accept, in_trial, flushed}
@@ -76,17 +77,14 @@ step_of o t.HardLine i m rest st = by_mode m (break_step o st.pending t.HardLine
 step_of o t.WeakLine i m rest st = break_step o st.pending t.WeakLine i m rest st
 step_of o (t.Append l r) i m rest st = Move [] (make_task i m l ∷ make_task i m r ∷ []) st
 step_of o (t.LineSuffix d) i m rest st = Move [] [] (record st { pending = st.pending ++ d ∷ [] })
-step_of o (t.Nest k d) i m rest st = Move [] (make_task (nested i k) m d ∷ []) st
-step_of o (t.DedentToRoot d) i m rest st = Move [] (make_task 0 m d ∷ []) st
-step_of o (t.Align d) i m rest st = Move [] (make_task (prospective st.column) m d ∷ []) st
+step_of o (t.Indented how d) i m rest st = Move [] (make_task (indent_by how i st.column) m d ∷ []) st
 step_of o t.ExpandParent i m rest st = Move [] [] st
 step_of o (t.Flatten d) i m rest st = Move [] (make_task i Flat d ∷ []) st
 step_of o (t.BreakOrFlat b f) i m rest st = Move [] (make_task i m (by_mode m b f) ∷ []) st
 step_of o (t.Group d) i m rest st = Move [] (make_task i (by_mode m (if probe o d i Flat rest st then Flat else Break) Flat) d ∷ []) st
 step_of o (t.Union l r) i m rest st = by_mode m (union_step (decided_by_metrics o l st) l r i st) (Move [] (make_task i Flat l ∷ []) st)
 step_of o (t.PartialUnion l r) i m rest st = Move [] (make_task i m (by_mode m (if probe o l i Break rest st then l else r) l) ∷ []) st
-step_of o (t.OnColumn test y n) i m rest st = Move [] (make_task i m (if column_holds test (prospective st.column) i then y else n) ∷ []) st
-step_of o (t.OnNesting test y n) i m rest st = Move [] (make_task i m (if nesting_holds test i then y else n) ∷ []) st
+step_of o (t.Chosen test y n) i m rest st = Move [] (make_task i m (if choice_holds test (prospective st.column) i then y else n) ∷ []) st
 
 -- the outcome of two branches, the first one tried from a state
 abbrev pub chosen : RenderOptions → Breaks → ℕ → Tree → Tree → List Entry → State → Outcome

@@ -1,8 +1,9 @@
 -- The summary of each variant of a document, from those of its parts.
-use Rattle.std.proofs.Common.{ℤ, false}
+use Rattle.std.proofs.Common.{false}
 use Rattle.prettyless_model.specs.Tree as t
 use Rattle.prettyless_model.specs.Tree.{Tree}
-use Rattle.prettyless_model.specs.Column.{nested, padding_fits, prospective}
+use Rattle.prettyless_model.specs.Column.{padding_fits}
+use Rattle.prettyless_model.specs.Indent.{Indenting, indent_by}
 use Rattle.prettyless_model.specs.Look.{Answers, by_mode}
 use Rattle.prettyless_model.specs.declared.mode.Mode.{Mode}
 use Rattle.prettyless_model.specs.declared.mode.Mode.TheVariants.{Break, Flat}
@@ -19,14 +20,8 @@ summarizes_flat_hard_line s h i = h
 
 -- of what has documents below it
 
-pub summarizes_nest : (s : Summary) (m : Mode) (k : ℤ) (d : Tree) → Summarizes s d m → Summarizes s (t.Nest k d) m
-summarizes_nest s m k d h i = h (nested i k)
-
-pub summarizes_dedent : (s : Summary) (m : Mode) (d : Tree) → Summarizes s d m → Summarizes s (t.DedentToRoot d) m
-summarizes_dedent s m d h i = h 0
-
-pub summarizes_align : (s : Summary) (m : Mode) (d : Tree) → Summarizes s d m → Summarizes s (t.Align d) m
-summarizes_align s m d h i width c = h (prospective c) width c
+pub summarizes_indented : (s : Summary) (m : Mode) (how : Indenting) (d : Tree) → Summarizes s d m → Summarizes s (t.Indented how d) m
+summarizes_indented s m how d h i width c = h (indent_by how i c) width c
 
 pub summarizes_group : (s : Summary) (m : Mode) (d : Tree) → Summarizes s d m → Summarizes s (t.Group d) m
 summarizes_group s m d h i = h i

@@ -1,8 +1,7 @@
 -- What a document shows a probe, in one value.
 use Rattle.std.specs.Prelude.{◌≡◌, ℕ, ◌+◌, ◌≤◌, Bool, true, false, not, ◌&&◌, ◌||◌, ◌==◌, nat_le, Option, Some, None, MatchOption}
 use Rattle.std.specs.Prelude.{⊤, if◌then◌else◌}
-use Rattle.prettyless_model.specs.Tree.{Tree, Nest, Append, LineSuffix, DedentToRoot, Align, Flatten, BreakOrFlat, Group, Union}
-use Rattle.prettyless_model.specs.Tree.{PartialUnion, OnColumn, OnNesting}
+use Rattle.prettyless_model.specs.Tree.{Tree, Append, LineSuffix, Indented, Flatten, BreakOrFlat, Group, Union, PartialUnion, Chosen}
 use Rattle.prettyless_model.specs.Column.{saturating_add, commit, padding_fits}
 use Rattle.prettyless_model.specs.Look.{Look, Answers, GoesOn, by_mode, look, look_end, look_then}
 use Rattle.prettyless_model.specs.declared.column.Column.{Column}
@@ -95,29 +94,23 @@ FoundIf false n s = s ≡ None
 abbrev pub HasSummaries : Tree → Type 0
 HasSummaries (Append l r) = HasSummaries l × HasSummaries r
 HasSummaries (LineSuffix d) = HasSummaries d
-HasSummaries (Nest k d) = HasSummaries d
-HasSummaries (DedentToRoot d) = HasSummaries d
-HasSummaries (Align d) = HasSummaries d
+HasSummaries (Indented how d) = HasSummaries d
 HasSummaries (Flatten d) = HasSummaries d
 HasSummaries (BreakOrFlat b f) = HasSummaries b × HasSummaries f
 HasSummaries (Group d) = HasSummaries d
 HasSummaries (Union l r) = HasSummaries l × HasSummaries r
 HasSummaries (PartialUnion l r) = HasSummaries l × HasSummaries r
-HasSummaries (OnColumn test y n) = ⊥
-HasSummaries (OnNesting test y n) = ⊥
+HasSummaries (Chosen test y n) = ⊥
 HasSummaries _ = ⊤
 
 -- Whether a document has a summary in a mode: no choice by column or nesting stands in what is read of it in that mode.
 abbrev pub has_summary : Tree → Mode → Bool
 has_summary (Append l r) m = has_summary l m && has_summary r m
-has_summary (Nest k d) m = has_summary d m
-has_summary (DedentToRoot d) m = has_summary d m
-has_summary (Align d) m = has_summary d m
+has_summary (Indented how d) m = has_summary d m
 has_summary (Flatten d) m = has_summary d Flat
 has_summary (BreakOrFlat b f) m = by_mode m (has_summary b m) (has_summary f m)
 has_summary (Group d) m = has_summary d m
 has_summary (Union l r) m = by_mode m (has_summary r m) (has_summary l m)
 has_summary (PartialUnion l r) m = by_mode m (has_summary r m) (has_summary l m)
-has_summary (OnColumn test y n) m = false
-has_summary (OnNesting test y n) m = false
+has_summary (Chosen test y n) m = false
 has_summary _ m = true

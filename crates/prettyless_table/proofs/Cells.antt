@@ -3,8 +3,7 @@ use Rattle.std.proofs.Common.{◌≡◌, ℕ, zero, suc, ◌-◌, ◌<◌, ◌�
 use Rattle.std.proofs.Common.{subst, ◌∙◌, arith, length-append}
 use Rattle.std.proofs.lemmas.List.{get_or_push, get_or_append_left}
 use Rattle.std.proofs.Math.ListN.{get_or-eq_default}
-use Rattle.prettyless_model.specs.Tree.{Tree, Nil, Append, LineSuffix, Nest, DedentToRoot, Align, Flatten, BreakOrFlat, Group, Union}
-use Rattle.prettyless_model.specs.Tree.{PartialUnion, OnColumn, OnNesting}
+use Rattle.prettyless_model.specs.Tree.{Tree, Nil, Append, LineSuffix, Indented, Flatten, BreakOrFlat, Group, Union, PartialUnion, Chosen}
 use Rattle.prettyless_model.specs.Tree as t
 use Rattle.prettyless_table.specs.declared.cell.Cell.{Cell}
 use Rattle.prettyless_table.specs.Parts.{parts_of, small}
@@ -61,9 +60,7 @@ pub stays : {N : Type 0} (cells : List (Cell N)) (c : Cell N) (d : Tree) (at : �
 stays cells c (Append l r) at = pair_stays (small (Append l r)) cells c at (Append l r) (In cells r) (In (cells ++ c ∷ []) r)
     (stays cells c l (at - 1)) (stays cells c r)
 stays cells c (LineSuffix d) at = single_stays (small (LineSuffix d)) cells c at (LineSuffix d) (stays cells c d (at - 1))
-stays cells c (Nest k d) at = single_stays (small (Nest k d)) cells c at (Nest k d) (stays cells c d at)
-stays cells c (DedentToRoot d) at = single_stays (small (DedentToRoot d)) cells c at (DedentToRoot d) (stays cells c d at)
-stays cells c (Align d) at = single_stays (small (Align d)) cells c at (Align d) (stays cells c d at)
+stays cells c (Indented how d) at = single_stays (small (Indented how d)) cells c at (Indented how d) (stays cells c d at)
 stays cells c (Flatten d) at = single_stays (small (Flatten d)) cells c at (Flatten d) (stays cells c d (at - 1))
 stays cells c (BreakOrFlat l r) at = pair_stays (small (BreakOrFlat l r)) cells c at (BreakOrFlat l r) (In cells r)
     (In (cells ++ c ∷ []) r) (stays cells c l (at - 1)) (stays cells c r)
@@ -72,9 +69,7 @@ stays cells c (Union l r) at = pair_stays (small (Union l r)) cells c at (Union 
     (stays cells c l (at - 1)) (stays cells c r)
 stays cells c (PartialUnion l r) at = pair_stays (small (PartialUnion l r)) cells c at (PartialUnion l r) (In cells r)
     (In (cells ++ c ∷ []) r) (stays cells c l (at - 1)) (stays cells c r)
-stays cells c (OnColumn test l r) at = pair_stays (small (OnColumn test l r)) cells c at (OnColumn test l r) (In cells r)
-    (In (cells ++ c ∷ []) r) (stays cells c l (at - 1)) (stays cells c r)
-stays cells c (OnNesting test l r) at = pair_stays (small (OnNesting test l r)) cells c at (OnNesting test l r) (In cells r)
+stays cells c (Chosen test l r) at = pair_stays (small (Chosen test l r)) cells c at (Chosen test l r) (In cells r)
     (In (cells ++ c ∷ []) r) (stays cells c l (at - 1)) (stays cells c r)
 stays cells c Nil at = λ h. h
 stays cells c t.Fail at = λ h. h
@@ -92,16 +87,13 @@ stays cells c t.ExpandParent at = λ h. h
 pub small_in : {N : Type 0} (cells : List (Cell N)) (d : Tree) (at : ℕ) → small d ≡ true → In cells d at
 small_in cells (Append l r) at e = unless_true (small (Append l r)) _ e
 small_in cells (LineSuffix d) at e = unless_true (small (LineSuffix d)) _ e
-small_in cells (Nest k d) at e = unless_true (small (Nest k d)) _ e
-small_in cells (DedentToRoot d) at e = unless_true (small (DedentToRoot d)) _ e
-small_in cells (Align d) at e = unless_true (small (Align d)) _ e
+small_in cells (Indented how d) at e = unless_true (small (Indented how d)) _ e
 small_in cells (Flatten d) at e = unless_true (small (Flatten d)) _ e
 small_in cells (BreakOrFlat l r) at e = unless_true (small (BreakOrFlat l r)) _ e
 small_in cells (Group d) at e = unless_true (small (Group d)) _ e
 small_in cells (Union l r) at e = unless_true (small (Union l r)) _ e
 small_in cells (PartialUnion l r) at e = unless_true (small (PartialUnion l r)) _ e
-small_in cells (OnColumn test l r) at e = unless_true (small (OnColumn test l r)) _ e
-small_in cells (OnNesting test l r) at e = unless_true (small (OnNesting test l r)) _ e
+small_in cells (Chosen test l r) at e = unless_true (small (Chosen test l r)) _ e
 small_in cells Nil at e = tt
 small_in cells t.Fail at e = tt
 small_in cells (t.Text s) at e = tt
@@ -116,16 +108,13 @@ small_in cells t.ExpandParent at e = tt
 pub in_cell : {N : Type 0} (cells : List (Cell N)) (d : Tree) (at : ℕ) → small d ≡ false → In cells d at → HasCell cells at d
 in_cell cells (Append l r) at e h = (unless_false (small (Append l r)) _ e h).0
 in_cell cells (LineSuffix d) at e h = (unless_false (small (LineSuffix d)) _ e h).0
-in_cell cells (Nest k d) at e h = (unless_false (small (Nest k d)) _ e h).0
-in_cell cells (DedentToRoot d) at e h = (unless_false (small (DedentToRoot d)) _ e h).0
-in_cell cells (Align d) at e h = (unless_false (small (Align d)) _ e h).0
+in_cell cells (Indented how d) at e h = (unless_false (small (Indented how d)) _ e h).0
 in_cell cells (Flatten d) at e h = (unless_false (small (Flatten d)) _ e h).0
 in_cell cells (BreakOrFlat l r) at e h = (unless_false (small (BreakOrFlat l r)) _ e h).0
 in_cell cells (Group d) at e h = (unless_false (small (Group d)) _ e h).0
 in_cell cells (Union l r) at e h = (unless_false (small (Union l r)) _ e h).0
 in_cell cells (PartialUnion l r) at e h = (unless_false (small (PartialUnion l r)) _ e h).0
-in_cell cells (OnColumn test l r) at e h = (unless_false (small (OnColumn test l r)) _ e h).0
-in_cell cells (OnNesting test l r) at e h = (unless_false (small (OnNesting test l r)) _ e h).0
+in_cell cells (Chosen test l r) at e h = (unless_false (small (Chosen test l r)) _ e h).0
 in_cell cells Nil at e h = cc
 in_cell cells t.Fail at e h = cc
 in_cell cells (t.Text s) at e h = cc
@@ -172,9 +161,7 @@ pub stands_new : {N : Type 0} (cells : List (Cell N)) (c : Cell N) (d : Tree) �
     → SecondIn cells (second_of c) (parts_of d) → IsOwn d → In (cells ++ c ∷ []) d (length cells)
 stands_new cells c (Append l r) keeps first second own = pair_new (small (Append l r)) cells c (Append l r) l r keeps first second
 stands_new cells c (LineSuffix d) keeps first second own = single_new (small (LineSuffix d)) cells c (LineSuffix d) d keeps first
-stands_new cells c (Nest k d) keeps first second own = own_new (small (Nest k d)) cells c (Nest k d) d keeps own
-stands_new cells c (DedentToRoot d) keeps first second own = own_new (small (DedentToRoot d)) cells c (DedentToRoot d) d keeps own
-stands_new cells c (Align d) keeps first second own = own_new (small (Align d)) cells c (Align d) d keeps own
+stands_new cells c (Indented how d) keeps first second own = own_new (small (Indented how d)) cells c (Indented how d) d keeps own
 stands_new cells c (Flatten d) keeps first second own = single_new (small (Flatten d)) cells c (Flatten d) d keeps first
 stands_new cells c (BreakOrFlat l r) keeps first second own =
     pair_new (small (BreakOrFlat l r)) cells c (BreakOrFlat l r) l r keeps first second
@@ -182,10 +169,8 @@ stands_new cells c (Group d) keeps first second own = own_new (small (Group d)) 
 stands_new cells c (Union l r) keeps first second own = pair_new (small (Union l r)) cells c (Union l r) l r keeps first second
 stands_new cells c (PartialUnion l r) keeps first second own =
     pair_new (small (PartialUnion l r)) cells c (PartialUnion l r) l r keeps first second
-stands_new cells c (OnColumn test l r) keeps first second own =
-    pair_new (small (OnColumn test l r)) cells c (OnColumn test l r) l r keeps first second
-stands_new cells c (OnNesting test l r) keeps first second own =
-    pair_new (small (OnNesting test l r)) cells c (OnNesting test l r) l r keeps first second
+stands_new cells c (Chosen test l r) keeps first second own =
+    pair_new (small (Chosen test l r)) cells c (Chosen test l r) l r keeps first second
 stands_new cells c Nil keeps first second own = tt
 stands_new cells c t.Fail keeps first second own = tt
 stands_new cells c (t.Text s) keeps first second own = tt

@@ -4,8 +4,8 @@ use Rattle.std.proofs.Common.{ap, subst, sym, ◌∙◌, arith, append-nil, appe
 use Rattle.std.specs.Prelude.{⊤}
 use Rattle.std.proofs.Math.Seq.{drop-append_seam}
 use Rattle.prettyless_model.specs.Tree.{Tree, Nil, Fail, Text, TextWithLen, MultilineText, WeakSpace, HardLine, WeakLine, Append}
-use Rattle.prettyless_model.specs.Tree.{LineSuffix, Nest, DedentToRoot, Align, ExpandParent, Flatten, BreakOrFlat, Group, Union}
-use Rattle.prettyless_model.specs.Tree.{PartialUnion, OnColumn, OnNesting, size}
+use Rattle.prettyless_model.specs.Tree.{LineSuffix, Indented, ExpandParent, Flatten, BreakOrFlat, Group, Union, PartialUnion, Chosen}
+use Rattle.prettyless_model.specs.Tree.{size}
 use Rattle.prettyless_probe.proofs.Sizes.{size_positive}
 use Rattle.prettyless_table.specs.Parts.{leaves, none, parts_of, small, takes}
 use Rattle.prettyless_table.specs.Stored.{IsOwn, Serves}
@@ -31,17 +31,14 @@ size-is HardLine = omega arith
 size-is WeakLine = omega arith
 size-is (Append l r) = omega arith
 size-is (LineSuffix d) = omega arith
-size-is (Nest k d) = omega arith
-size-is (DedentToRoot d) = omega arith
-size-is (Align d) = omega arith
+size-is (Indented how d) = omega arith
 size-is ExpandParent = omega arith
 size-is (Flatten d) = omega arith
 size-is (BreakOrFlat b f) = omega arith
 size-is (Group d) = omega arith
 size-is (Union l r) = omega arith
 size-is (PartialUnion l r) = omega arith
-size-is (OnColumn test y n) = omega arith
-size-is (OnNesting test y n) = omega arith
+size-is (Chosen test y n) = omega arith
 
 pub size_one : (d x : Tree) → x ∷ [] ≡ parts_of d → size d ≡ size x + 1
 size_one d x e = omega (arith, size-is d, ap sizes e)
@@ -63,17 +60,14 @@ owners-is HardLine = refl
 owners-is WeakLine = refl
 owners-is (Append l r) = ap (λ ds. with_own (Append l r) (owners_of l ++ ds)) (sym (append-nil (owners_of r)))
 owners-is (LineSuffix d) = ap (with_own (LineSuffix d)) (sym (append-nil (owners_of d)))
-owners-is (Nest k d) = ap (with_own (Nest k d)) (sym (append-nil (owners_of d)))
-owners-is (DedentToRoot d) = ap (with_own (DedentToRoot d)) (sym (append-nil (owners_of d)))
-owners-is (Align d) = ap (with_own (Align d)) (sym (append-nil (owners_of d)))
+owners-is (Indented how d) = ap (with_own (Indented how d)) (sym (append-nil (owners_of d)))
 owners-is ExpandParent = refl
 owners-is (Flatten d) = ap (with_own (Flatten d)) (sym (append-nil (owners_of d)))
 owners-is (BreakOrFlat l r) = ap (λ ds. with_own (BreakOrFlat l r) (owners_of l ++ ds)) (sym (append-nil (owners_of r)))
 owners-is (Group d) = ap (with_own (Group d)) (sym (append-nil (owners_of d)))
 owners-is (Union l r) = ap (λ ds. with_own (Union l r) (owners_of l ++ ds)) (sym (append-nil (owners_of r)))
 owners-is (PartialUnion l r) = ap (λ ds. with_own (PartialUnion l r) (owners_of l ++ ds)) (sym (append-nil (owners_of r)))
-owners-is (OnColumn test l r) = ap (λ ds. with_own (OnColumn test l r) (owners_of l ++ ds)) (sym (append-nil (owners_of r)))
-owners-is (OnNesting test l r) = ap (λ ds. with_own (OnNesting test l r) (owners_of l ++ ds)) (sym (append-nil (owners_of r)))
+owners-is (Chosen test l r) = ap (λ ds. with_own (Chosen test l r) (owners_of l ++ ds)) (sym (append-nil (owners_of r)))
 
 pub owners_own : (d : Tree) → takes d ≡ true → owners_of d ≡ d ∷ all_owners (parts_of d)
 owners_own d e = owners-is d ∙ ap (λ (b : Bool). if b then d ∷ all_owners (parts_of d) else all_owners (parts_of d)) e
@@ -108,15 +102,9 @@ keeper_own true d e h = refl
 keeper_own false d e h = cc
 
 pub owner : (d : Tree) → takes d ≡ true → IsOwner d
-owner (Nest k d) e =
+owner (Indented how d) e =
     let b = lone_small (none (parts_of d)) (small d) e in
-    record { large = lone_large (none (parts_of d)) (small d) e; own = b; keeper = keeper_own (small d) (Nest k d) (keeper d) b }
-owner (DedentToRoot d) e =
-    let b = lone_small (none (parts_of d)) (small d) e in
-    record { large = lone_large (none (parts_of d)) (small d) e; own = b; keeper = keeper_own (small d) (DedentToRoot d) (keeper d) b }
-owner (Align d) e =
-    let b = lone_small (none (parts_of d)) (small d) e in
-    record { large = lone_large (none (parts_of d)) (small d) e; own = b; keeper = keeper_own (small d) (Align d) (keeper d) b }
+    record { large = lone_large (none (parts_of d)) (small d) e; own = b; keeper = keeper_own (small d) (Indented how d) (keeper d) b }
 owner (Group d) e =
     let b = lone_small (none (parts_of d)) (small d) e in
     record { large = lone_large (none (parts_of d)) (small d) e; own = b; keeper = keeper_own (small d) (Group d) (keeper d) b }
@@ -126,8 +114,7 @@ owner (Flatten d) e = record { large = not_true (small (Flatten d)) e; own = tt;
 owner (BreakOrFlat l r) e = record { large = not_true (small (BreakOrFlat l r)) e; own = tt; keeper = refl }
 owner (Union l r) e = record { large = not_true (small (Union l r)) e; own = tt; keeper = refl }
 owner (PartialUnion l r) e = record { large = not_true (small (PartialUnion l r)) e; own = tt; keeper = refl }
-owner (OnColumn test l r) e = record { large = not_true (small (OnColumn test l r)) e; own = tt; keeper = refl }
-owner (OnNesting test l r) e = record { large = not_true (small (OnNesting test l r)) e; own = tt; keeper = refl }
+owner (Chosen test l r) e = record { large = not_true (small (Chosen test l r)) e; own = tt; keeper = refl }
 owner Nil e = cc
 owner Fail e = cc
 owner (Text s) e = cc
@@ -177,12 +164,8 @@ keepers_shared false false x y zs g e = refl
 
 -- a node that takes no cell has that of its part, if there is one
 keepers_not : (d : Tree) (ds : List Tree) → takes d ≡ false → keepers (d ∷ ds) ≡ keepers (parts_of d) ++ keepers ds
-keepers_not (Nest k d) ds e =
-    keepers_shared (none (parts_of d)) (small d) (Nest k d) (keeper d) (keepers ds) (none_leaves (parts_of d)) e
-keepers_not (DedentToRoot d) ds e =
-    keepers_shared (none (parts_of d)) (small d) (DedentToRoot d) (keeper d) (keepers ds) (none_leaves (parts_of d)) e
-keepers_not (Align d) ds e =
-    keepers_shared (none (parts_of d)) (small d) (Align d) (keeper d) (keepers ds) (none_leaves (parts_of d)) e
+keepers_not (Indented how d) ds e =
+    keepers_shared (none (parts_of d)) (small d) (Indented how d) (keeper d) (keepers ds) (none_leaves (parts_of d)) e
 keepers_not (Group d) ds e =
     keepers_shared (none (parts_of d)) (small d) (Group d) (keeper d) (keepers ds) (none_leaves (parts_of d)) e
 keepers_not (Append l r) ds e = keepers_less (Append l r) ds (not_false (small (Append l r)) e)
@@ -191,8 +174,7 @@ keepers_not (Flatten d) ds e = keepers_less (Flatten d) ds (not_false (small (Fl
 keepers_not (BreakOrFlat l r) ds e = keepers_less (BreakOrFlat l r) ds (not_false (small (BreakOrFlat l r)) e)
 keepers_not (Union l r) ds e = keepers_less (Union l r) ds (not_false (small (Union l r)) e)
 keepers_not (PartialUnion l r) ds e = keepers_less (PartialUnion l r) ds (not_false (small (PartialUnion l r)) e)
-keepers_not (OnColumn test l r) ds e = keepers_less (OnColumn test l r) ds (not_false (small (OnColumn test l r)) e)
-keepers_not (OnNesting test l r) ds e = keepers_less (OnNesting test l r) ds (not_false (small (OnNesting test l r)) e)
+keepers_not (Chosen test l r) ds e = keepers_less (Chosen test l r) ds (not_false (small (Chosen test l r)) e)
 keepers_not Nil ds e = refl
 keepers_not Fail ds e = refl
 keepers_not (Text s) ds e = refl
@@ -310,10 +292,8 @@ shared_serves N true d e is below above = λ cells at h. h
 shared_serves N false d e is below above = λ cells at h. above is cells at (below cells at h)
 
 pub keeper_serves : (N : Type 0) (d : Tree) → Serves N (keeper d) d
-keeper_serves N (Nest k d) = shared_serves N (small d) d (Nest k d) refl (keeper_serves N d) (serves_part N (Nest k d) d refl refl)
-keeper_serves N (DedentToRoot d) =
-    shared_serves N (small d) d (DedentToRoot d) refl (keeper_serves N d) (serves_part N (DedentToRoot d) d refl refl)
-keeper_serves N (Align d) = shared_serves N (small d) d (Align d) refl (keeper_serves N d) (serves_part N (Align d) d refl refl)
+keeper_serves N (Indented how d) =
+    shared_serves N (small d) d (Indented how d) refl (keeper_serves N d) (serves_part N (Indented how d) d refl refl)
 keeper_serves N (Group d) = shared_serves N (small d) d (Group d) refl (keeper_serves N d) (serves_part N (Group d) d refl refl)
 keeper_serves N (Append l r) = λ cells at h. h
 keeper_serves N (LineSuffix d) = λ cells at h. h
@@ -321,8 +301,7 @@ keeper_serves N (Flatten d) = λ cells at h. h
 keeper_serves N (BreakOrFlat l r) = λ cells at h. h
 keeper_serves N (Union l r) = λ cells at h. h
 keeper_serves N (PartialUnion l r) = λ cells at h. h
-keeper_serves N (OnColumn test l r) = λ cells at h. h
-keeper_serves N (OnNesting test l r) = λ cells at h. h
+keeper_serves N (Chosen test l r) = λ cells at h. h
 keeper_serves N Nil = λ cells at h. h
 keeper_serves N Fail = λ cells at h. h
 keeper_serves N (Text s) = λ cells at h. h

@@ -1,13 +1,12 @@
 -- Nodes that have the place of their part, and those that have a cell of their own.
 use Rattle.std.proofs.Common.{◌≡◌, ℕ, ◌≤◌, Bool, refl, true, false, List, [], ◌∷◌, get_or, ap, subst, sym, ◌∙◌, arith}
 use Rattle.prettyless_model.specs.Tree.{Tree, Nil, Fail, Text, TextWithLen, MultilineText, WeakSpace, HardLine, WeakLine, ExpandParent}
-use Rattle.prettyless_model.specs.Tree.{LineSuffix, OnColumn, OnNesting, Nest, DedentToRoot, Align, Flatten, Group, BreakOrFlat, Union}
-use Rattle.prettyless_model.specs.Tree.{PartialUnion, Append, size}
+use Rattle.prettyless_model.specs.Tree.{LineSuffix, Chosen, Indented, Flatten, Group, BreakOrFlat, Union, PartialUnion, Append, size}
 use Rattle.prettyless_model.specs.declared.mode.Mode.{Mode}
 use Rattle.prettyless_model.specs.declared.mode.Mode.TheVariants.{Break, Flat}
 use Rattle.prettyless_summary.specs.Summary.{Summarizes, has_summary}
 use Rattle.prettyless_summary.specs.declared.summary.Summary.{Summary}
-use Rattle.prettyless_summary.proofs.Variants.{summarizes_nest, summarizes_dedent, summarizes_align, summarizes_group}
+use Rattle.prettyless_summary.proofs.Variants.{summarizes_indented, summarizes_group}
 use Rattle.prettyless_table.specs.Sums.{Keeps, KeptIf}
 use Rattle.prettyless_table.specs.declared.sums.Counts.{Counts}
 use Rattle.prettyless_table.specs.declared.cell.Cell.{Cell}
@@ -45,27 +44,11 @@ cell_as {N} cells at d e via has less h = record {
 
 -- where the part stands, a node that has its place does
 pub serves_part : (N : Type 0) (d x : Tree) → x ∷ [] ≡ parts_of d → shares d ≡ true → small x ≡ false → Serves N x d
-serves_part N (Nest k d) x e s little cells at h =
+serves_part N (Indented how d) x e s little cells at h =
     let same : x ≡ d = ap (λ (ds : List Tree). get_or ds 0 Nil) e in
     let stands : In cells d at = subst (λ (t : Tree). In cells t at) same h in
-    unless_some (small (Nest k d)) (
-      cell_as cells at d (Nest k d) (λ m y. summarizes_nest y m k d) (λ m. refl) (omega arith)
-          (in_cell cells d at (ap small (sym same) ∙ little) stands),
-      stands,
-    )
-serves_part N (DedentToRoot d) x e s little cells at h =
-    let same : x ≡ d = ap (λ (ds : List Tree). get_or ds 0 Nil) e in
-    let stands : In cells d at = subst (λ (t : Tree). In cells t at) same h in
-    unless_some (small (DedentToRoot d)) (
-      cell_as cells at d (DedentToRoot d) (λ m y. summarizes_dedent y m d) (λ m. refl) (omega arith)
-          (in_cell cells d at (ap small (sym same) ∙ little) stands),
-      stands,
-    )
-serves_part N (Align d) x e s little cells at h =
-    let same : x ≡ d = ap (λ (ds : List Tree). get_or ds 0 Nil) e in
-    let stands : In cells d at = subst (λ (t : Tree). In cells t at) same h in
-    unless_some (small (Align d)) (
-      cell_as cells at d (Align d) (λ m y. summarizes_align y m d) (λ m. refl) (omega arith)
+    unless_some (small (Indented how d)) (
+      cell_as cells at d (Indented how d) (λ m y. summarizes_indented y m how d) (λ m. refl) (omega arith)
           (in_cell cells d at (ap small (sym same) ∙ little) stands),
       stands,
     )
@@ -83,8 +66,7 @@ serves_part N (Flatten d) x e s little cells at h = cc
 serves_part N (BreakOrFlat l r) x e s little cells at h = cc
 serves_part N (Union l r) x e s little cells at h = cc
 serves_part N (PartialUnion l r) x e s little cells at h = cc
-serves_part N (OnColumn test l r) x e s little cells at h = cc
-serves_part N (OnNesting test l r) x e s little cells at h = cc
+serves_part N (Chosen test l r) x e s little cells at h = cc
 serves_part N Nil x e s little cells at h = cc
 serves_part N Fail x e s little cells at h = cc
 serves_part N (Text t) x e s little cells at h = cc

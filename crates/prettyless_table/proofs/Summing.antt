@@ -1,8 +1,8 @@
 -- The summaries of a node, from those of its parts.
-use Rattle.std.proofs.Common.{◌≡◌, ◌≢◌, ℕ, ℤ, ◌+◌, ◌<◌, ◌≤◌, ◌^◌, ◌&&◌, Bool, [], Option, Some, None, true, false, refl, subst, sym, arith}
+use Rattle.std.proofs.Common.{◌≡◌, ◌≢◌, ℕ, ◌+◌, ◌<◌, ◌≤◌, ◌^◌, ◌&&◌, Bool, [], Option, Some, None, true, false, refl, subst, sym, arith}
 use Rattle.prettyless_model.specs.Tree as t
-use Rattle.prettyless_model.specs.Tree.{Tree, HardLine, Nest, DedentToRoot, Align, Flatten, Group, BreakOrFlat, Union, PartialUnion, Append}
-use Rattle.prettyless_model.specs.Tree.{size}
+use Rattle.prettyless_model.specs.Tree.{Tree, HardLine, Indented, Flatten, Group, BreakOrFlat, Union, PartialUnion, Append, size}
+use Rattle.prettyless_model.specs.Indent.{Indenting}
 use Rattle.prettyless_model.specs.Column.{padding_fits}
 use Rattle.prettyless_model.specs.Look.{Answers}
 use Rattle.prettyless_model.specs.declared.mode.Mode.{Mode}
@@ -10,9 +10,8 @@ use Rattle.prettyless_model.specs.declared.mode.Mode.TheVariants.{Break, Flat}
 use Rattle.prettyless_summary.specs.Summary.{FoundIf, IsFound, IsKnown, IsSmall, ReadsLook, Summarizes, has_summary}
 use Rattle.prettyless_summary.specs.Marks.{marks_of}
 use Rattle.prettyless_summary.specs.declared.summary.Summary.{Summary}
-use Rattle.prettyless_summary.proofs.Variants.{summarizes_hard_line, summarizes_flat_hard_line, summarizes_nest, summarizes_dedent}
-use Rattle.prettyless_summary.proofs.Variants.{summarizes_align, summarizes_group, summarizes_flatten, summarizes_break_or_flat}
-use Rattle.prettyless_summary.proofs.Variants.{summarizes_union, summarizes_partial_union}
+use Rattle.prettyless_summary.proofs.Variants.{summarizes_hard_line, summarizes_flat_hard_line, summarizes_indented, summarizes_group}
+use Rattle.prettyless_summary.proofs.Variants.{summarizes_flatten, summarizes_break_or_flat, summarizes_union, summarizes_partial_union}
 use Rattle.prettyless_table.specs.declared.sums.Sums.{Sums}
 use Rattle.prettyless_table.specs.Parts.{parts_of}
 use Rattle.prettyless_table.specs.Sums.{AreDocumentSums, IsModeSummary, IsOnly, Keeps, KeptIf}
@@ -43,22 +42,10 @@ sums_flatten s d h = record {
   broken = sums_as s.flat d (Flatten d) Flat Break (λ x. summarizes_flatten x Break d) refl (omega arith) h.flat;
 }
 
-pub sums_nest : (s : Sums) (k : ℤ) (d : Tree) → AreDocumentSums s d → AreDocumentSums s (Nest k d)
-sums_nest s k d h = record {
-  flat = sums_as s.flat d (Nest k d) Flat Flat (λ x. summarizes_nest x Flat k d) refl (omega arith) h.flat;
-  broken = sums_as s.broken d (Nest k d) Break Break (λ x. summarizes_nest x Break k d) refl (omega arith) h.broken;
-}
-
-pub sums_dedent : (s : Sums) (d : Tree) → AreDocumentSums s d → AreDocumentSums s (DedentToRoot d)
-sums_dedent s d h = record {
-  flat = sums_as s.flat d (DedentToRoot d) Flat Flat (λ x. summarizes_dedent x Flat d) refl (omega arith) h.flat;
-  broken = sums_as s.broken d (DedentToRoot d) Break Break (λ x. summarizes_dedent x Break d) refl (omega arith) h.broken;
-}
-
-pub sums_align : (s : Sums) (d : Tree) → AreDocumentSums s d → AreDocumentSums s (Align d)
-sums_align s d h = record {
-  flat = sums_as s.flat d (Align d) Flat Flat (λ x. summarizes_align x Flat d) refl (omega arith) h.flat;
-  broken = sums_as s.broken d (Align d) Break Break (λ x. summarizes_align x Break d) refl (omega arith) h.broken;
+pub sums_indented : (s : Sums) (how : Indenting) (d : Tree) → AreDocumentSums s d → AreDocumentSums s (Indented how d)
+sums_indented s how d h = record {
+  flat = sums_as s.flat d (Indented how d) Flat Flat (λ x. summarizes_indented x Flat how d) refl (omega arith) h.flat;
+  broken = sums_as s.broken d (Indented how d) Break Break (λ x. summarizes_indented x Break how d) refl (omega arith) h.broken;
 }
 
 pub sums_group : (s : Sums) (d : Tree) → AreDocumentSums s d → AreDocumentSums s (Group d)
@@ -121,16 +108,13 @@ leaf_found t.WeakLine m s e h = h
 leaf_found t.ExpandParent m s e h = h
 leaf_found (t.Append l r) m s e h = absurd (cc)
 leaf_found (t.LineSuffix d) m s e h = absurd (cc)
-leaf_found (t.Nest k d) m s e h = absurd (cc)
-leaf_found (t.DedentToRoot d) m s e h = absurd (cc)
-leaf_found (t.Align d) m s e h = absurd (cc)
+leaf_found (t.Indented how d) m s e h = absurd (cc)
 leaf_found (t.Flatten d) m s e h = absurd (cc)
 leaf_found (t.BreakOrFlat b f) m s e h = absurd (cc)
 leaf_found (t.Group d) m s e h = absurd (cc)
 leaf_found (t.Union l r) m s e h = absurd (cc)
 leaf_found (t.PartialUnion l r) m s e h = absurd (cc)
-leaf_found (t.OnColumn test y n) m s e h = absurd (cc)
-leaf_found (t.OnNesting test y n) m s e h = absurd (cc)
+leaf_found (t.Chosen test y n) m s e h = absurd (cc)
 
 -- the summary of a leaf
 pub sum_leaf : (d : Tree) (m : Mode) (s : Summary) → [] ≡ parts_of d → Summarizes s d m → IsSmall 1 s → IsModeSummary (Some s) d m

@@ -1,8 +1,7 @@
 -- Tables: which documents stand where in their cells.
 use Rattle.std.specs.Prelude.{◌≡◌, ℕ, ◌-◌, ◌<◌, ◌≤◌, Bool, true, false, List, [], ◌∷◌, Option, Some, None, length, get_or, ⊤}
 use Rattle.std.specs.Coded.{×_prop, Unit-prop, le_prop}
-use Rattle.prettyless_model.specs.Tree.{Tree, Nil, Append, LineSuffix, Nest, DedentToRoot, Align, Flatten, BreakOrFlat, Group, Union}
-use Rattle.prettyless_model.specs.Tree.{PartialUnion, OnColumn, OnNesting}
+use Rattle.prettyless_model.specs.Tree.{Tree, Nil, Append, LineSuffix, Indented, Flatten, BreakOrFlat, Group, Union, PartialUnion, Chosen}
 use Rattle.prettyless_model.specs.Tree as t
 use Rattle.prettyless_model.specs.declared.mode.Mode.TheVariants.{Break, Flat}
 use Rattle.prettyless_table.specs.declared.sums.Counts.{Counts}
@@ -76,9 +75,7 @@ abbrev pub In : {N : Type 0} → List (Cell N) → Tree → ℕ → Type 0
 In cells (Append l r) at = Unless (small (Append l r))
     (HasCell cells at (Append l r) × (In cells l (at - 1) × In cells r (second_at cells at)))
 In cells (LineSuffix d) at = Unless (small (LineSuffix d)) (HasCell cells at (LineSuffix d) × In cells d (at - 1))
-In cells (Nest k d) at = Unless (small (Nest k d)) (HasCell cells at (Nest k d) × In cells d at)
-In cells (DedentToRoot d) at = Unless (small (DedentToRoot d)) (HasCell cells at (DedentToRoot d) × In cells d at)
-In cells (Align d) at = Unless (small (Align d)) (HasCell cells at (Align d) × In cells d at)
+In cells (Indented how d) at = Unless (small (Indented how d)) (HasCell cells at (Indented how d) × In cells d at)
 In cells (Flatten d) at = Unless (small (Flatten d)) (HasCell cells at (Flatten d) × In cells d (at - 1))
 In cells (BreakOrFlat l r) at =
     Unless (small (BreakOrFlat l r)) (HasCell cells at (BreakOrFlat l r) × (In cells l (at - 1) × In cells r (second_at cells at)))
@@ -87,10 +84,8 @@ In cells (Union l r) at = Unless (small (Union l r))
     (HasCell cells at (Union l r) × (In cells l (at - 1) × In cells r (second_at cells at)))
 In cells (PartialUnion l r) at =
     Unless (small (PartialUnion l r)) (HasCell cells at (PartialUnion l r) × (In cells l (at - 1) × In cells r (second_at cells at)))
-In cells (OnColumn test l r) at =
-    Unless (small (OnColumn test l r)) (HasCell cells at (OnColumn test l r) × (In cells l (at - 1) × In cells r (second_at cells at)))
-In cells (OnNesting test l r) at =
-    Unless (small (OnNesting test l r)) (HasCell cells at (OnNesting test l r) × (In cells l (at - 1) × In cells r (second_at cells at)))
+In cells (Chosen test l r) at =
+    Unless (small (Chosen test l r)) (HasCell cells at (Chosen test l r) × (In cells l (at - 1) × In cells r (second_at cells at)))
 In cells _ at = ⊤
 
 -- a document that was stored stands where its cell says
@@ -126,9 +121,7 @@ pub In-prop : {N : Type 0} (cells : List (Cell N)) (d : Tree) (at : ℕ) → IsP
 In-prop cells (Append l r) at =
     pair-prop (small (Append l r)) cells at (Append l r) (In-prop cells l (at - 1)) (In-prop cells r (second_at cells at))
 In-prop cells (LineSuffix d) at = single-prop (small (LineSuffix d)) cells at (LineSuffix d) (In-prop cells d (at - 1))
-In-prop cells (Nest k d) at = single-prop (small (Nest k d)) cells at (Nest k d) (In-prop cells d at)
-In-prop cells (DedentToRoot d) at = single-prop (small (DedentToRoot d)) cells at (DedentToRoot d) (In-prop cells d at)
-In-prop cells (Align d) at = single-prop (small (Align d)) cells at (Align d) (In-prop cells d at)
+In-prop cells (Indented how d) at = single-prop (small (Indented how d)) cells at (Indented how d) (In-prop cells d at)
 In-prop cells (Flatten d) at = single-prop (small (Flatten d)) cells at (Flatten d) (In-prop cells d (at - 1))
 In-prop cells (BreakOrFlat l r) at =
     pair-prop (small (BreakOrFlat l r)) cells at (BreakOrFlat l r) (In-prop cells l (at - 1)) (In-prop cells r (second_at cells at))
@@ -137,10 +130,8 @@ In-prop cells (Union l r) at =
     pair-prop (small (Union l r)) cells at (Union l r) (In-prop cells l (at - 1)) (In-prop cells r (second_at cells at))
 In-prop cells (PartialUnion l r) at =
     pair-prop (small (PartialUnion l r)) cells at (PartialUnion l r) (In-prop cells l (at - 1)) (In-prop cells r (second_at cells at))
-In-prop cells (OnColumn test l r) at =
-    pair-prop (small (OnColumn test l r)) cells at (OnColumn test l r) (In-prop cells l (at - 1)) (In-prop cells r (second_at cells at))
-In-prop cells (OnNesting test l r) at =
-    pair-prop (small (OnNesting test l r)) cells at (OnNesting test l r) (In-prop cells l (at - 1)) (In-prop cells r (second_at cells at))
+In-prop cells (Chosen test l r) at =
+    pair-prop (small (Chosen test l r)) cells at (Chosen test l r) (In-prop cells l (at - 1)) (In-prop cells r (second_at cells at))
 In-prop cells Nil at = Unit-prop
 In-prop cells t.Fail at = Unit-prop
 In-prop cells (t.Text s) at = Unit-prop

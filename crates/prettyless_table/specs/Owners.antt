@@ -1,7 +1,6 @@
 -- The nodes of documents that take cells, in the order in which they are listed, and where documents stand meanwhile.
 use Rattle.std.specs.Prelude.{ℕ, ◌-◌, if◌then◌else◌, List, [], ◌∷◌, ◌++◌, map, length, reverse, ⊤}
-use Rattle.prettyless_model.specs.Tree.{Tree, Append, LineSuffix, Nest, DedentToRoot, Align, Flatten, BreakOrFlat, Group, Union}
-use Rattle.prettyless_model.specs.Tree.{PartialUnion, OnColumn, OnNesting}
+use Rattle.prettyless_model.specs.Tree.{Tree, Append, LineSuffix, Indented, Flatten, BreakOrFlat, Group, Union, PartialUnion, Chosen}
 use Rattle.prettyless_probe.specs.Stack.{Task, trees}
 use Rattle.prettyless_step.specs.Printing.{tasks_of}
 use Rattle.prettyless_step.specs.declared.printer.Printer.{Printer}
@@ -18,16 +17,13 @@ with_own d ds = if takes d then d ∷ ds else ds
 abbrev pub owners_of : Tree → List Tree
 owners_of (Append l r) = with_own (Append l r) (owners_of l ++ owners_of r)
 owners_of (LineSuffix d) = with_own (LineSuffix d) (owners_of d)
-owners_of (Nest k d) = with_own (Nest k d) (owners_of d)
-owners_of (DedentToRoot d) = with_own (DedentToRoot d) (owners_of d)
-owners_of (Align d) = with_own (Align d) (owners_of d)
+owners_of (Indented how d) = with_own (Indented how d) (owners_of d)
 owners_of (Flatten d) = with_own (Flatten d) (owners_of d)
 owners_of (BreakOrFlat l r) = with_own (BreakOrFlat l r) (owners_of l ++ owners_of r)
 owners_of (Group d) = with_own (Group d) (owners_of d)
 owners_of (Union l r) = with_own (Union l r) (owners_of l ++ owners_of r)
 owners_of (PartialUnion l r) = with_own (PartialUnion l r) (owners_of l ++ owners_of r)
-owners_of (OnColumn test l r) = with_own (OnColumn test l r) (owners_of l ++ owners_of r)
-owners_of (OnNesting test l r) = with_own (OnNesting test l r) (owners_of l ++ owners_of r)
+owners_of (Chosen test l r) = with_own (Chosen test l r) (owners_of l ++ owners_of r)
 owners_of _ = []
 
 -- and those of trees
@@ -47,9 +43,7 @@ large (d ∷ ds) = if small d then large ds else d ∷ large ds
 
 -- the node whose cell a tree has that is not small: itself, or that of its part
 abbrev pub keeper : Tree → Tree
-keeper (Nest k d) = if small d then Nest k d else keeper d
-keeper (DedentToRoot d) = if small d then DedentToRoot d else keeper d
-keeper (Align d) = if small d then Align d else keeper d
+keeper (Indented how d) = if small d then Indented how d else keeper d
 keeper (Group d) = if small d then Group d else keeper d
 keeper d = d
 

@@ -1,7 +1,7 @@
 -- Nodes and their parts: the documents that a node has below it.
 use Rattle.std.specs.Prelude.{◌≡◌, ℤ, Bool, true, false, ◌&&◌, if◌then◌else◌, List, [], ◌∷◌}
-use Rattle.prettyless_model.specs.Tree.{Tree, Append, LineSuffix, Nest, DedentToRoot, Align, Flatten, BreakOrFlat, Group, Union}
-use Rattle.prettyless_model.specs.Tree.{PartialUnion, OnColumn, OnNesting}
+use Rattle.prettyless_model.specs.Tree.{Tree, Append, LineSuffix, Indented, Nest, DedentToRoot, Align, Flatten, BreakOrFlat, Group}
+use Rattle.prettyless_model.specs.Tree.{Union, PartialUnion, Chosen}
 use Rattle.prettyless_summary.specs.Summary.{has_summary}
 use Rattle.prettyless_model.specs.declared.mode.Mode.{Mode}
 use Rattle.prettyless_table.specs.declared.kind.Single.{Single}
@@ -33,16 +33,13 @@ pair_tree two.PartialUnion x y = PartialUnion x y
 abbrev pub parts_of : Tree → List Tree
 parts_of (Append l r) = l ∷ r ∷ []
 parts_of (LineSuffix d) = d ∷ []
-parts_of (Nest k d) = d ∷ []
-parts_of (DedentToRoot d) = d ∷ []
-parts_of (Align d) = d ∷ []
+parts_of (Indented how d) = d ∷ []
 parts_of (Flatten d) = d ∷ []
 parts_of (BreakOrFlat b f) = b ∷ f ∷ []
 parts_of (Group d) = d ∷ []
 parts_of (Union l r) = l ∷ r ∷ []
 parts_of (PartialUnion l r) = l ∷ r ∷ []
-parts_of (OnColumn test y n) = y ∷ n ∷ []
-parts_of (OnNesting test y n) = y ∷ n ∷ []
+parts_of (Chosen test y n) = y ∷ n ∷ []
 parts_of _ = []
 
 -- the trees of the parts of a node
@@ -74,9 +71,7 @@ small d = leaves (parts_of d)
 
 -- whether a node has the place of its part
 abbrev pub shares : Tree → Bool
-shares (Nest k d) = true
-shares (DedentToRoot d) = true
-shares (Align d) = true
+shares (Indented how d) = true
 shares (Group d) = true
 shares _ = false
 
@@ -86,8 +81,6 @@ small_with_parts d = if none (parts_of d) then false else small d
 
 -- whether a node takes a cell: it is not small, and does not share that of its part
 abbrev pub takes : Tree → Bool
-takes (Nest k d) = small_with_parts d
-takes (DedentToRoot d) = small_with_parts d
-takes (Align d) = small_with_parts d
+takes (Indented how d) = small_with_parts d
 takes (Group d) = small_with_parts d
 takes d = if small d then false else true

@@ -1,6 +1,6 @@
 -- Where a document and its parts stand in a table.
 use Rattle.std.specs.Prelude.{◌≡◌, ℕ, ◌<◌, true, List, [], ◌∷◌, Option, Some, None, length, get_or, ⊤}
-use Rattle.prettyless_model.specs.Tree.{Tree, Nest, DedentToRoot, Align, Group}
+use Rattle.prettyless_model.specs.Tree.{Tree, Indented, Group}
 use Rattle.prettyless_table.specs.declared.cell.Cell.{Cell}
 use Rattle.prettyless_table.specs.Parts.{small}
 use Rattle.prettyless_table.specs.Cells.{In}
@@ -27,8 +27,6 @@ Serves N d e = (cells : List (Cell N)) (at : ℕ) → In cells d at → In cells
 
 -- a node that has the place of its part would have one that is not small; this one gets a cell of its own
 abbrev pub IsOwn : Tree → Type 0
-IsOwn (Nest k d) = small d ≡ true
-IsOwn (DedentToRoot d) = small d ≡ true
-IsOwn (Align d) = small d ≡ true
+IsOwn (Indented how d) = small d ≡ true
 IsOwn (Group d) = small d ≡ true
 IsOwn _ = ⊤
