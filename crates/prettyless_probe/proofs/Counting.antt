@@ -1,5 +1,6 @@
 -- How many nodes a probe reads, node by node.
-use Rattle.std.proofs.Common.{◌≡◌, ℕ, ◌+◌, ◌-◌, ◌^◌, ◌<◌, ◌≤◌, min, List, [], ◌∷◌, refl, Result, Ok, Err, IfOk, Bool, true, false, ◌&&◌, ap, arith, if◌then◌else◌}
+use Rattle.std.proofs.Common.{◌≡◌, ℕ, ◌+◌, ◌-◌, ◌^◌, ◌<◌, ◌≤◌, min, List, [], ◌∷◌, refl, Result, Ok, Err, IfOk, Bool, true, false}
+use Rattle.std.proofs.Common.{◌&&◌, ◌||◌, nat_lt, ◌∙◌, ap, arith, sym, if◌then◌else◌}
 use Rattle.prettyless_model.specs.Tree as t
 use Rattle.prettyless_model.specs.Tree.{Tree}
 use Rattle.prettyless_model.specs.Choice.{column_holds, nesting_holds}
@@ -10,9 +11,11 @@ use Rattle.prettyless_model.specs.declared.choice.NestingTest.{NestingTest}
 use Rattle.prettyless_model.specs.declared.column.Column.{Column}
 use Rattle.prettyless_model.specs.declared.mode.Mode.{Mode}
 use Rattle.prettyless_model.specs.declared.mode.Mode.TheVariants.{Break}
-use Rattle.prettyless_summary.specs.Summary.{has_summary}
+use Rattle.prettyless_summary.specs.Summary.{Summarizes, has_summary, look_by}
+use Rattle.prettyless_summary.specs.declared.summary.Summary.{Summary}
+use Rattle.prettyless_summary.proofs.Has.{only_second}
 use Rattle.prettyless_probe.specs.Stack.{Task, make_task}
-use Rattle.prettyless_probe.specs.Reads.{read_after, reads, reads_all, reads_below, with_below}
+use Rattle.prettyless_probe.specs.Reads.{by_sums, parts_read, probe_reads, read_after, reads, reads_all, reads_below, reads_from, with_below}
 
 -- what is read after one look and then another
 pub after-then : (x : Look) (f : Column → Bool → Look) (g : Column → Bool → ℕ) →
@@ -145,6 +148,50 @@ pub reads_by_one : (w i : ℕ) (m : Mode) (d : Tree) (ts : List Task) (next : Co
     reads_all true w (make_task i m d ∷ ts) next c p ≡ 1 + read_after (look w d i m c p) (reads_all true w ts next)
 reads_by_one w i m d ts next c p h =
     ap (λ (n : ℕ). n + read_after (look w d i m c p) (reads_all true w ts next)) (read_known w d i m c p h)
+
+-- summaries are read of a document that has one, and else where few nodes were visited
+pub sums_own : (has own few : Bool) → (has && own) ≡ true → (has && (own || few)) ≡ true
+sums_own true true few e = refl
+sums_own true false few e = absurd (cc)
+sums_own false own few e = absurd (cc)
+
+pub sums_few : (has own few : Bool) → (has && few) ≡ true → (has && (own || few)) ≡ true
+sums_few true true few e = refl
+sums_few true false few e = e
+sums_few false own few e = absurd (cc)
+
+pub sums_none : (has own few : Bool) → (has && own) ≡ false → (has && few) ≡ false → (has && (own || few)) ≡ false
+sums_none true true few e h = absurd (cc)
+sums_none true false few e h = h
+sums_none false own few e h = refl
+
+-- what two say together is so of the first
+pub only_first : (a b : Bool) → (a && b) ≡ true → a ≡ true
+only_first true b e = refl
+only_first false b e = absurd (cc)
+
+-- a probe of a document by its summary, and then of what follows it
+pub reads_by_summary : (has : Bool) (old w i : ℕ) (m : Mode) (s : Summary) (d : Tree) (mine under ts : List Task) (c : Column) (p : Bool)
+    → (has && has_summary d m) ≡ true → Summarizes s d m → mine ≡ [] → under ≡ ts →
+    1 + read_after (look_by w s c p) (reads_all true w mine (reads_below true w false under)) ≡ probe_reads has old w d i m ts c p
+reads_by_summary has old w i m s d mine under ts c p sure known none same =
+    let own : Bool = has_summary d m in
+    let next : Column → Bool → ℕ = reads_below true w false ts in
+    let one = only_second has own (only_first has own sure) sure in
+    ap (λ (z : List Task). 1 + read_after (look_by w s c p) (reads_all true w z (reads_below true w false under))) none
+    ∙ ap (λ (z : List Task). 1 + read_after (look_by w s c p) (reads_below true w false z)) same
+    ∙ ap (λ (x : Look). 1 + read_after x next) (known i w c p)
+    ∙ sym (reads_by_one w i m d [] next c p one)
+    ∙ ap (λ (b : Bool). reads_from b w d i m ts c p) (sym (sums_own has own (nat_lt old parts_read) sure))
+
+-- a probe of a document that reads summaries, or that does not
+pub reads_by_nodes : (sums : Bool) (has : Bool) (old w i : ℕ) (m : Mode) (d : Tree) (mine under ts : List Task) (c : Column) (p : Bool)
+    → by_sums has old d m ≡ sums → mine ≡ [] → under ≡ ts →
+    reads_all sums w (make_task i m d ∷ mine) (reads_below sums w false under) c p ≡ probe_reads has old w d i m ts c p
+reads_by_nodes sums has old w i m d mine under ts c p chosen none same =
+    ap (λ (z : List Task). reads_all sums w (make_task i m d ∷ z) (reads_below sums w false under) c p) none
+    ∙ ap (λ (z : List Task). reads_from sums w d i m z c p) same
+    ∙ ap (λ (b : Bool). reads_from b w d i m ts c p) (sym chosen)
 
 -- what follows, where the first of it has no summary
 pub reads_unknown : (w : ℕ) (t : Task) (ts : List Task) (c : Column) (p : Bool) → has_summary t.tree Break ≡ false →

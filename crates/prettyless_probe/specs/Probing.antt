@@ -27,12 +27,16 @@ abbrev pub look_by_answer : Option Bool → Column → Bool → Look
 look_by_answer (Some b) c p = Answers b
 look_by_answer None c p = GoesOn c p
 
--- where this is an answer, x is that answer; else x is what comes, from this column on, of the node that is read next, if
--- there is one, and of the tasks after it
+-- whether the line stays within the width: the answer, or what comes, from this column on, of the node that is read next, if there is
+-- one, and of the tasks after it
+abbrev pub fits_on : {N : Type 0} → (N → Tree) → ℕ → ProbeStep N → List Task → Column → Bool → Bool
+fits_on f width (Answer b) ts c p = b
+fits_on f width (Descend i m n) ts c p = tasks_fit width (make_task i m (f n) ∷ ts) c p
+fits_on f width Silent ts c p = tasks_fit width ts c p
+
+-- x is whether the line stays within the width, from a result on
 abbrev pub ReadsAs : {N : Type 0} → (N → Tree) → ℕ → ProbeStep N → Bool → List Task → Column → Bool → Type 0
-ReadsAs f width (Answer b) x ts c p = x ≡ b
-ReadsAs f width (Descend i m n) x ts c p = x ≡ tasks_fit width (make_task i m (f n) ∷ ts) c p
-ReadsAs f width Silent x ts c p = x ≡ tasks_fit width ts c p
+ReadsAs f width read x ts c p = x ≡ fits_on f width read ts c p
 
 -- how many nodes the node that is read next has
 abbrev pub nodes_next : {N : Type 0} → (N → Tree) → ProbeStep N → ℕ

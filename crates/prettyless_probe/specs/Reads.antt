@@ -1,5 +1,5 @@
 -- How many nodes a probe reads: those that it looks at, up to the end of the line. One whose summary is known is read as one.
-use Rattle.std.specs.Prelude.{◌≡◌, ℕ, ◌+◌, ◌-◌, ◌^◌, ◌<◌, min, Bool, IsTrue, true, false, ◌&&◌, List, [], ◌∷◌, Option, Some, None, if◌then◌else◌}
+use Rattle.std.specs.Prelude.{◌≡◌, ℕ, ◌+◌, ◌-◌, ◌^◌, ◌<◌, min, Bool, IsTrue, true, false, ◌&&◌, ◌||◌, nat_lt, List, [], ◌∷◌, Option, Some, None, if◌then◌else◌}
 use Rattle.prettyless_model.specs.Tree as t
 use Rattle.prettyless_model.specs.Tree.{Tree, size}
 use Rattle.prettyless_model.specs.Choice.{choice_holds}
@@ -60,9 +60,22 @@ reads_below sums width summed (t ∷ ts) c p =
     (if sums && has_summary t.tree Break && summed then 0 else reads sums width t.tree t.indent Break c p)
     + read_after (look width t.tree t.indent Break c p) (λ e q. reads_below sums width (sums && has_summary t.tree Break) ts e q)
 
--- of a document and what follows it: how many nodes a probe reads
-abbrev pub probe_reads : Bool → ℕ → Tree → ℕ → Mode → List Task → Column → Bool → ℕ
-probe_reads sums width d i m ts c p = reads_all sums width (make_task i m d ∷ []) (reads_below sums width false ts) c p
+-- so many nodes probes visit before one reads node by node where nodes have summaries
+abbrev pub parts_read : ℕ
+parts_read = 1000
+
+-- Whether a probe of a document in a mode reads summaries, where nodes have them and probes visited so many nodes before it: the document
+-- has one, or they visited few.
+abbrev pub by_sums : Bool → ℕ → Tree → Mode → Bool
+by_sums has old d m = has && (has_summary d m || nat_lt old parts_read)
+
+-- of a document, with summaries read or not, and what follows it
+abbrev pub reads_from : Bool → ℕ → Tree → ℕ → Mode → List Task → Column → Bool → ℕ
+reads_from sums width d i m ts c p = reads_all sums width (make_task i m d ∷ []) (reads_below sums width false ts) c p
+
+-- how many nodes a probe of a document reads, of it and of what follows it, where probes visited so many nodes before
+abbrev pub probe_reads : Bool → ℕ → ℕ → Tree → ℕ → Mode → List Task → Column → Bool → ℕ
+probe_reads has old width d i m ts c p = reads_from (by_sums has old d m) width d i m ts c p
 
 -- what a probe has still to read after the result at a node: of the node that is read next, if there is one, and of the tasks after it
 abbrev pub reads_on : {N : Type 0} → (N → Tree) → Bool → ℕ → ProbeStep N → List Task → (Column → Bool → ℕ) → Column → Bool → ℕ

@@ -1,7 +1,7 @@
 //! The probe: whether a node fits the line with what follows it.
 //! It knows nodes by `Walk` alone, and of a printer the commands that it has left. It knows no sink.
 ghost use Rattle.std.specs.Prelude.{◌≡◌, ◌++◌, ◌∷◌, [], IfOk, OnOk, IfSome, MatchOption, List, false, length, true, IsTrue, ◌&&◌};
-ghost use Rattle.std.specs.Prelude.{◌+◌, ◌<◌, ◌≤◌};
+ghost use Rattle.std.specs.Prelude.{◌+◌, ◌<◌, ◌≤◌, ◌^◌, nat_lt};
 ghost use Rattle.std.specs.Prelude.{if◌then◌else◌, ℕ, Bool};
 ghost use Rattle.prettyless_model.specs.Tree.{Tree, WeakLine, size};
 ghost use Rattle.prettyless_model.specs.declared.mode.Mode.TheVariants.{Flat};
@@ -13,22 +13,23 @@ ghost use Rattle.prettyless_probe.specs.declared.probe.ProbeLine.{ProbeLine};
 ghost use Rattle.prettyless_probe.specs.declared.probe.ProbeStep.TheVariants.{Answer, Silent, Descend};
 ghost use Rattle.prettyless_probe.specs.declared.probe.Fit.TheVariants.{FitsAsTexts, Fits, Exceeds};
 ghost use Rattle.prettyless_probe.specs.Probing.{Few, ReadsAs, RisesBy, RoomAt, TextsAt, is_fit, look_by_answer, nodes_next, read_in, read_of};
-ghost use Rattle.prettyless_probe.specs.Reads.{IsFew, RisesTo, probe_reads, reads_all, reads_below, reads_next, reads_on};
+ghost use Rattle.prettyless_probe.specs.Reads.{IsFew, RisesTo, parts_read, probe_reads, reads_all, reads_below, reads_next, reads_on};
 ghost use Rattle.prettyless_probe.specs.Sums.{IsSummed};
 ghost use Rattle.prettyless_probe.specs.Stack.{IsCursor, Task, follow, in_break, make_task, nodes, stack_of, task, tasks_fit};
 ghost use Rattle.prettyless_probe.specs.Stack.{room_of, unread};
-ghost use Rattle.prettyless_summary.specs.Summary.{has_summary};
+ghost use Rattle.prettyless_summary.specs.Summary.{FoundIf, HasSummaries, IsFound, IsKnown, has_summary};
 ghost use Rattle.prettyless_probe.specs.Texts.{IsTexts, IsTextsIf, tasks_waiting, texts_waiting};
 
 use crate::choice::{by_column, by_nesting, either};
 use crate::command::{Command, nested_indent};
 use crate::stack::{Cursor, Stack};
-use crate::summed::visit_by_sums;
+use crate::summed::{visit_by_parts, visit_by_sums};
 use crate::walk::{View, Walk};
 use prettyless_model::column::Column;
 use prettyless_model::count::one_more;
 use prettyless_model::metrics::Metrics;
 use prettyless_model::mode::Mode;
+use prettyless_summary::summary::Summary;
 use std::alloc::AllocError;
 use std::marker::Model;
 
@@ -237,7 +238,7 @@ pub(crate) fn probe_one<N: Walk>(
             Mode::Flat => Ok(ProbeStep::Answer(false)),
         },
         View::Append(first, second) => {
-            stack.push(indent, mode, second)?;
+            stack.put(indent, mode, second)?;
             Ok(ProbeStep::Descend(indent, mode, first))
         }
         View::Nest(offset, inner) => Ok(read_nested(indent, offset, mode, inner)),
@@ -368,7 +369,7 @@ fn visit_other<N: Walk>(
 
 // Reads one node, of the indent and the mode of the topmost frame.
 #[inline(always)]
-#[tactic(auto, using(crate::proofs::Counting::looks_read))]
+#[tactic(auto, using(crate::proofs::Probes::looks, crate::proofs::Counting::looks_read))]
 fn visit_one<N: Walk>(
     width: usize,
     line: &mut LineState,
@@ -397,7 +398,7 @@ fn visit_one<N: Walk>(
 {
     match node.view() {
         View::Append(first, second) => {
-            stack.push_in(second)?;
+            stack.put_in(second)?;
             Ok(FrameStep::Descend(first))
         }
         View::Text(s) => {
@@ -419,6 +420,11 @@ fn visit_one<N: Walk>(
         View::Group(inner) => Ok(FrameStep::Descend(inner)),
         View::HardLine => Ok(FrameStep::Answer(read_line_end(width, &line.get(), stack.mode_in()))),
         View::Nil => Ok(FrameStep::Silent),
+        View::OnColumn(test, first, second) => {
+            *is_texts = with_other(*is_texts, stack.mode_in());
+            let column = line.get().column;
+            Ok(FrameStep::Descend(by_column(test, column, stack.indent_in(), first, second)))
+        }
         _ => visit_other(width, line, node, stack, is_texts),
     }
 }
@@ -539,12 +545,40 @@ fn visit_all<N: Walk>(
     }
 }
 
+// How many nodes probes visit before one reads node by node where nodes have summaries. To ask each node for its summary takes longer
+// than to read it.
+const PARTS_READ: u64 = 1_000;
+
+// What a node shows a probe in a mode, where nodes have summaries and it has one.
+#[inline(always)]
+fn summary_of<N: Walk>(node: &N, mode: Mode) -> Option<Summary>
+    ensures known { IsKnown result (N.tree node.now) mode }
+    ensures found { IsTrue N.HAS_SUMMARIES → HasSummaries (N.tree node.now) → size (N.tree node.now) < 2 ^ 32
+        → IsFound (size (N.tree node.now)) result }
+    ensures exact { (IsTrue N.HAS_SUMMARIES → size (N.tree node.now) < 2 ^ 32)
+        → FoundIf (N.HAS_SUMMARIES && has_summary (N.tree node.now) mode) (size (N.tree node.now)) result }
+{
+    if N::has_summaries() {
+        node.known(mode)
+    } else {
+        None
+    }
+}
+
+// Whether nodes have summaries, and probes visited few nodes.
+#[inline(always)]
+fn reads_parts<N: Walk>(probes: u64) -> bool
+    ensures { result ≡ (N.HAS_SUMMARIES && nat_lt probes parts_read) }
+{
+    N::has_summaries() && probes < PARTS_READ
+}
+
 /// Whether a node, laid at this indent and in this mode from where the line is, stays within the width together with what
 /// follows it, up to the first line end. `stack` is only a place to work in. The nodes that it visits are counted in `probes`: one at
 /// least, and two at most where all is summed up.
 ///
 /// It fails where memory is refused. Nothing is promised of `stack` then, and what was visited is counted.
-#[tactic(auto, using(crate::proofs::Probes::probe_fits))]
+#[tactic(auto, using(crate::proofs::Probes::probe_fits, crate::proofs::Sizes::size_positive))]
 pub fn probe<N: Walk>(
     width: usize,
     start: ProbeLine,
@@ -566,18 +600,22 @@ pub fn probe<N: Walk>(
     ensures asked { OnOk result (RisesBy 1 probes.old probes.new) }
     ensures few { Few N.HAS_SUMMARIES (N.tree node) (stack_of N.tree commands.now) 1 probes.old probes.new }
     ensures reads { IsFew N.HAS_SUMMARIES (N.tree node) (stack_of N.tree commands.now) → OnOk result (RisesTo
-        (probe_reads N.HAS_SUMMARIES width (N.tree node) indent mode (stack_of N.tree commands.now)
+        (probe_reads N.HAS_SUMMARIES probes.old width (N.tree node) indent mode (stack_of N.tree commands.now)
         start.column start.pending) probes.old probes.new) }
     ensures reads_at_most { IsFew N.HAS_SUMMARIES (N.tree node) (stack_of N.tree commands.now) → probes.new ≤ probes.old
-        + probe_reads N.HAS_SUMMARIES width (N.tree node) indent mode (stack_of N.tree commands.now)
+        + probe_reads N.HAS_SUMMARIES probes.old width (N.tree node) indent mode (stack_of N.tree commands.now)
         start.column start.pending }
 {
     stack.clear();
-    let first = Command { indent, mode, node };
     let below = commands.cursor();
-    if N::has_summaries() {
-        let fits = visit_by_sums(width, start, first, commands, below, stack, probes)?;
+    if let Some(summary) = summary_of(&node, mode) {
+        let fits = visit_by_sums(width, start, summary, commands, below, stack, probes)?;
         return Ok(found(fits, false));
+    }
+    let first = Command { indent, mode, node };
+    if reads_parts::<N>(*probes) {
+        let within = visit_by_parts(width, start, first, commands, below, stack, probes)?;
+        return Ok(found(within, false));
     }
     let mut count = *probes;
     let fit = visit_all(width, start, first, commands, below, stack, &mut count);

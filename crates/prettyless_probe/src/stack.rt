@@ -114,6 +114,7 @@ impl<N: Walk> Stack<N> {
         requires { self.old.here.below < vec_len self.old.nodes }
         ensures same { OnOk result (stack_of N.tree self.new ≡ stack_of N.tree self.old) }
         ensures opened { OnOk result ((self.new.here.indent ≡ indent) × (self.new.here.mode ≡ mode)) }
+        ensures sums { OnOk result (self.new.sums ≡ self.old.sums) }
         ensures summed { OnOk result (IsSummed N.HAS_SUMMARIES N.tree self.old → IsSummed N.HAS_SUMMARIES N.tree self.new) }
         ensures room { OnOk result (room_of self.old ≤ room_of self.new) }
     {
@@ -192,6 +193,7 @@ impl<N: Walk> Stack<N> {
     fn change(&mut self, indent: usize, mode: Mode) -> Result<(), AllocError>
         ensures same { OnOk result (stack_of N.tree self.new ≡ stack_of N.tree self.old) }
         ensures entered { OnOk result ((self.new.here.indent ≡ indent) × (self.new.here.mode ≡ mode)) }
+        ensures sums { OnOk result (self.new.sums ≡ self.old.sums) }
         ensures summed { OnOk result (IsSummed N.HAS_SUMMARIES N.tree self.old → IsSummed N.HAS_SUMMARIES N.tree self.new) }
         ensures room { OnOk result (room_of self.old ≤ room_of self.new) }
     {
@@ -219,18 +221,17 @@ impl<N: Walk> Stack<N> {
         self.change(indent, mode)
     }
 
-    /// Puts a node on top, in the topmost frame: it has the indent and the mode of that.
+    /// Puts a node on top, in the topmost frame: it has the indent and the mode of that. It gets no sum.
     ///
     /// It fails where memory is refused: nothing is promised of the stack then.
     #[inline(always)]
-    pub fn push_in(&mut self, node: N) -> Result<(), AllocError>
-        ensures pushed { OnOk result (stack_of N.tree self.new
+    pub fn put_in(&mut self, node: N) -> Result<(), AllocError>
+        ensures put { OnOk result (stack_of N.tree self.new
             ≡ make_task self.old.here.indent self.old.here.mode (N.tree node) ∷ stack_of N.tree self.old) }
         ensures here { OnOk result (self.new.here ≡ self.old.here) }
-        ensures summed { OnOk result (IsSummed N.HAS_SUMMARIES N.tree self.old → IsSummed N.HAS_SUMMARIES N.tree self.new) }
+        ensures sums { OnOk result (self.new.sums ≡ self.old.sums) }
         ensures room { OnOk result ((room_of self.old ≤ room_of self.new) × (length (stack_of N.tree self.new) ≤ room_of self.new)) }
     {
-        self.push_sum(&node)?;
         self.seen = node.touch();
         self.nodes.push(node)?;
         Ok(())
@@ -238,16 +239,31 @@ impl<N: Walk> Stack<N> {
 
     // Puts a node on top, in a frame of its own. It takes the place of the topmost one, if that has no node.
     #[inline(never)]
-    fn push_framed(&mut self, indent: usize, mode: Mode, node: N) -> Result<(), AllocError>
-        ensures pushed { OnOk result (stack_of N.tree self.new ≡ make_task indent mode (N.tree node) ∷ stack_of N.tree self.old) }
-        ensures summed { OnOk result (IsSummed N.HAS_SUMMARIES N.tree self.old → IsSummed N.HAS_SUMMARIES N.tree self.new) }
+    fn put_framed(&mut self, indent: usize, mode: Mode, node: N) -> Result<(), AllocError>
+        ensures put { OnOk result (stack_of N.tree self.new ≡ make_task indent mode (N.tree node) ∷ stack_of N.tree self.old) }
+        ensures sums { OnOk result (self.new.sums ≡ self.old.sums) }
         ensures room { OnOk result (room_of self.old ≤ room_of self.new) }
     {
         self.change(indent, mode)?;
-        self.push_in(node)
+        self.put_in(node)
     }
 
-    /// Puts a node on top, with this indent, in columns, and this mode.
+    /// Puts a node on top, with this indent, in columns, and this mode. It gets no sum: a probe's own nodes have none.
+    ///
+    /// It fails where memory is refused: nothing is promised of the stack then.
+    #[inline(always)]
+    pub fn put(&mut self, indent: usize, mode: Mode, node: N) -> Result<(), AllocError>
+        ensures put { OnOk result (stack_of N.tree self.new ≡ make_task indent mode (N.tree node) ∷ stack_of N.tree self.old) }
+        ensures sums { OnOk result (self.new.sums ≡ self.old.sums) }
+        ensures room { OnOk result (room_of self.old ≤ room_of self.new) }
+    {
+        if self.shares(indent, mode) {
+            return self.put_in(node);
+        }
+        self.put_framed(indent, mode, node)
+    }
+
+    /// Puts a node on top, with this indent, in columns, and this mode, and its sum where nodes have summaries.
     ///
     /// It fails where memory is refused: nothing is promised of the stack then.
     #[inline(always)]
@@ -256,10 +272,9 @@ impl<N: Walk> Stack<N> {
         ensures summed { OnOk result (IsSummed N.HAS_SUMMARIES N.tree self.old → IsSummed N.HAS_SUMMARIES N.tree self.new) }
         ensures room { OnOk result (room_of self.old ≤ room_of self.new) }
     {
-        if self.shares(indent, mode) {
-            return self.push_in(node);
-        }
-        self.push_framed(indent, mode, node)
+        self.push_sum(&node)?;
+        self.put(indent, mode, node)?;
+        Ok(())
     }
 
     // Takes the topmost frame off, which has no node. The answer is whether there is another one.

@@ -4,12 +4,12 @@ ghost use Rattle.std.specs.Prelude.{◌≡◌, ◌++◌, ◌∷◌, IfOk, IsTrue
 ghost use Rattle.prettyless_model.specs.Tree.{size};
 ghost use Rattle.prettyless_model.specs.Look.{answer_of};
 ghost use Rattle.prettyless_model.specs.declared.column.Column.{Column};
-ghost use Rattle.prettyless_summary.specs.Summary.{HasSummaries, look_by};
-ghost use Rattle.prettyless_probe.specs.Probing.{Few, OneLeft, ReadsAs, RisesBy, nodes_next, pace};
+ghost use Rattle.prettyless_summary.specs.Summary.{look_by};
+ghost use Rattle.prettyless_probe.specs.Probing.{OneLeft, ReadsAs, RisesBy, nodes_next, pace};
 ghost use Rattle.prettyless_probe.specs.Reads.{RisesTo, read_after, reads_all, reads_below, reads_on};
 ghost use Rattle.prettyless_probe.specs.declared.probe.ProbeStep.{ProbeStep};
 ghost use Rattle.prettyless_probe.specs.Stack.{IsCursor, Task, in_break, make_task, nodes, stack_of, task, tasks_fit, unread};
-ghost use Rattle.prettyless_probe.specs.Sums.{AreSums};
+ghost use Rattle.prettyless_probe.specs.Sums.{AreSums, HaveSum};
 
 use crate::command::Command;
 use crate::probe::{ProbeLine, ProbeStep, probe_one};
@@ -58,8 +58,6 @@ fn read_one<N: Walk>(
         (stack_of N.tree stack.new ++ ts) line.new.column line.new.pending) }
     ensures smaller { IfOk result (λ a.
         nodes_next N.tree a + nodes (stack_of N.tree stack.new) < size (N.tree node) + nodes (stack_of N.tree stack.old)) }
-    ensures few { IfOk result (λ a. IsTrue N.HAS_SUMMARIES → HasSummaries (N.tree node) → size (N.tree node) < 2 ^ 32
-        → (nodes_next N.tree a ≡ 0) × (stack_of N.tree stack.new ≡ stack_of N.tree stack.old)) }
     ensures reads { IfOk result (λ a. (next : Column → Bool → ℕ) → IsTrue N.HAS_SUMMARIES → size (N.tree node) < 2 ^ 32
         → reads_all true width (make_task indent mode (N.tree node) ∷ stack_of N.tree stack.old) next line.old.column line.old.pending
         ≡ 1 + reads_on N.tree true width a (stack_of N.tree stack.new) next line.new.column line.new.pending) }
@@ -121,10 +119,95 @@ fn read_on<N: Walk>(
     }
 }
 
-/// Visits a node, what is on the stack, and then the printer's commands downwards, up to an answer. Each node that is read and
-/// each sum is counted in `probes`.
+// Goes on after a result, up to an answer: with the node that is read next, what is on the stack, and then the printer's commands
+// downwards. Of each node it reads the summary where there is one, and else the node. Each of these and each sum is counted in `probes`.
 #[tactic(auto, using(crate::proofs::Sizes::size_positive, crate::proofs::Counting::some_read))]
+fn read_rest<N: Walk>(
+    width: usize,
+    start: ProbeLine,
+    first: ProbeStep<N>,
+    commands: &Stack<N>,
+    cursor: Cursor,
+    stack: &mut Stack<N>,
+    probes: &mut u64,
+) -> Result<bool, AllocError>
+    requires of_this { IsCursor commands.now cursor }
+    requires summed { AreSums commands.now.sums.items (unread N.tree commands.now cursor) }
+    ensures answer { IfOk result (λ r. ReadsAs N.tree width first r
+        (stack_of N.tree stack.old ++ in_break (unread N.tree commands.now cursor)) start.column start.pending) }
+    ensures rises { probes.old ≤ probes.new }
+    ensures counted { probes.new
+        ≤ probes.old + (nodes_next N.tree first + (nodes (stack_of N.tree stack.old) + nodes (unread N.tree commands.now cursor))) }
+    ensures few { OneLeft N.tree first (stack_of N.tree stack.old) (unread N.tree commands.now cursor) commands.now.sums.items
+        → probes.new ≤ probes.old + 1 }
+    ensures reads { probes.old ≤ 2 ^ 64 - 1 → IsTrue N.HAS_SUMMARIES
+        → length (unread N.tree commands.now cursor) ≤ length commands.now.sums.items
+        → nodes_next N.tree first + (nodes (stack_of N.tree stack.old) + nodes (unread N.tree commands.now cursor)) < 2 ^ 32
+        → OnOk result (RisesTo (reads_on N.tree true width first (stack_of N.tree stack.old)
+        (reads_below true width false (unread N.tree commands.now cursor)) start.column start.pending) probes.old probes.new) }
+    ensures reads_at_most { probes.old ≤ 2 ^ 64 - 1 → IsTrue N.HAS_SUMMARIES
+        → length (unread N.tree commands.now cursor) ≤ length commands.now.sums.items
+        → nodes_next N.tree first + (nodes (stack_of N.tree stack.old) + nodes (unread N.tree commands.now cursor)) < 2 ^ 32
+        → probes.new ≤ probes.old + reads_on N.tree true width first (stack_of N.tree stack.old)
+        (reads_below true width false (unread N.tree commands.now cursor)) start.column start.pending }
+{
+    let mut line = start;
+    let mut below = cursor;
+    let mut read = first;
+    'read: loop {
+        read = match read {
+            ProbeStep::Answer(answer) => return Ok(answer),
+            ProbeStep::Descend(indent, mode, node) => {
+                *probes = one_more(*probes);
+                read_one(width, &mut line, indent, mode, node, stack)?
+            }
+            ProbeStep::Silent => read_on(width, &mut line, commands, &mut below, stack, probes),
+        };
+    }
+}
+
+/// Reads a line by a summary, then what is on the stack and the printer's commands downwards, up to an answer. The summary, each node
+/// that is read and each sum is counted in `probes`.
 pub(crate) fn visit_by_sums<N: Walk>(
+    width: usize,
+    start: ProbeLine,
+    summary: Summary,
+    commands: &Stack<N>,
+    cursor: Cursor,
+    stack: &mut Stack<N>,
+    probes: &mut u64,
+) -> Result<bool, AllocError>
+    requires of_this { IsCursor commands.now cursor }
+    requires summed { AreSums commands.now.sums.items (unread N.tree commands.now cursor) }
+    ensures answer { IfOk result
+        (λ r. r ≡ answer_of (look_by width summary start.column start.pending)
+        (λ c p. tasks_fit width (stack_of N.tree stack.old ++ in_break (unread N.tree commands.now cursor)) c p)) }
+    ensures rises { probes.old ≤ probes.new }
+    ensures counted { probes.new
+        ≤ probes.old + (1 + (nodes (stack_of N.tree stack.old) + nodes (unread N.tree commands.now cursor))) }
+    ensures asked { OnOk result (RisesBy 1 probes.old probes.new) }
+    ensures few { stack_of N.tree stack.old ≡ [] → length (unread N.tree commands.now cursor) ≤ length commands.now.sums.items
+        → HaveSum (unread N.tree commands.now cursor) → probes.new ≤ probes.old + 2 }
+    ensures reads { IsTrue N.HAS_SUMMARIES → length (unread N.tree commands.now cursor) ≤ length commands.now.sums.items
+        → nodes (stack_of N.tree stack.old) + nodes (unread N.tree commands.now cursor) < 2 ^ 32
+        → OnOk result (RisesTo (1 + read_after (look_by width summary start.column start.pending)
+        (reads_all true width (stack_of N.tree stack.old) (reads_below true width false (unread N.tree commands.now cursor))))
+        probes.old probes.new) }
+    ensures reads_at_most { IsTrue N.HAS_SUMMARIES → length (unread N.tree commands.now cursor) ≤ length commands.now.sums.items
+        → nodes (stack_of N.tree stack.old) + nodes (unread N.tree commands.now cursor) < 2 ^ 32
+        → probes.new ≤ probes.old + (1 + read_after (look_by width summary start.column start.pending)
+        (reads_all true width (stack_of N.tree stack.old) (reads_below true width false (unread N.tree commands.now cursor)))) }
+{
+    let mut line = start;
+    *probes = one_more(*probes);
+    let read = read_by(width, &mut line, summary);
+    read_rest(width, line, read, commands, cursor, stack, probes)
+}
+
+/// Visits a node, what is on the stack, and then the printer's commands downwards, up to an answer. Of each node it reads the summary
+/// where there is one, and else the node. Each of these and each sum is counted in `probes`.
+#[tactic(auto, using(crate::proofs::Sizes::size_positive, crate::proofs::Counting::some_read))]
+pub(crate) fn visit_by_parts<N: Walk>(
     width: usize,
     start: ProbeLine,
     first: Command<N>,
@@ -142,8 +225,6 @@ pub(crate) fn visit_by_sums<N: Walk>(
     ensures counted { probes.new
         ≤ probes.old + (size (N.tree first.node) + (nodes (stack_of N.tree stack.old) + nodes (unread N.tree commands.now cursor))) }
     ensures asked { OnOk result (RisesBy 1 probes.old probes.new) }
-    ensures few { stack_of N.tree stack.old ≡ [] → length (unread N.tree commands.now cursor) ≤ length commands.now.sums.items
-        → Few N.HAS_SUMMARIES (N.tree first.node) (unread N.tree commands.now cursor) 1 probes.old probes.new }
     ensures reads { IsTrue N.HAS_SUMMARIES → length (unread N.tree commands.now cursor) ≤ length commands.now.sums.items
         → size (N.tree first.node) + (nodes (stack_of N.tree stack.old) + nodes (unread N.tree commands.now cursor)) < 2 ^ 32
         → OnOk result (RisesTo (reads_all true width (task N.tree first ∷ stack_of N.tree stack.old)
@@ -154,9 +235,8 @@ pub(crate) fn visit_by_sums<N: Walk>(
         (reads_below true width false (unread N.tree commands.now cursor)) start.column start.pending }
 {
     let mut line = start;
-    let mut below = cursor;
     *probes = one_more(*probes);
-    let mut read = read_one(
+    let read = read_one(
         width,
         &mut line,
         first.indent,
@@ -164,14 +244,5 @@ pub(crate) fn visit_by_sums<N: Walk>(
         first.node,
         stack,
     )?;
-    'read: loop {
-        read = match read {
-            ProbeStep::Answer(answer) => return Ok(answer),
-            ProbeStep::Descend(indent, mode, node) => {
-                *probes = one_more(*probes);
-                read_one(width, &mut line, indent, mode, node, stack)?
-            }
-            ProbeStep::Silent => read_on(width, &mut line, commands, &mut below, stack, probes),
-        };
-    }
+    read_rest(width, line, read, commands, cursor, stack, probes)
 }

@@ -10,12 +10,13 @@ use Rattle.prettyless_model.specs.declared.options.RenderOptions.{RenderOptions}
 use Rattle.prettyless_probe.specs.Reads.{probe_reads}
 use Rattle.prettyless_probe.specs.Stack.{Task}
 
--- of a document at an indent in a mode, where the printer is in a state and has these tasks left; `has` says whether nodes have summaries
-abbrev pub reads_here : Bool → RenderOptions → Tree → ℕ → Mode → List Task → State → ℕ
-reads_here has o d i m ts st = probe_reads has o.width d i m ts st.column (some_pending st.pending)
+-- Of a document at an indent in a mode, where the printer is in a state and has these tasks left. `has` says whether nodes have summaries,
+-- `old` how many nodes probes visited before.
+abbrev pub reads_here : Bool → ℕ → RenderOptions → Tree → ℕ → Mode → List Task → State → ℕ
+reads_here has old o d i m ts st = probe_reads has old o.width d i m ts st.column (some_pending st.pending)
 
 -- Of the visit of a node. Only that of a group and of a partial union in Break starts a probe.
-abbrev pub step_reads : Bool → RenderOptions → Tree → ℕ → Mode → List Task → State → ℕ
-step_reads has o (t.Group d) i m ts st = by_mode m (reads_here has o d i Flat ts st) 0
-step_reads has o (t.PartialUnion l r) i m ts st = by_mode m (reads_here has o l i Break ts st) 0
-step_reads has o d i m ts st = 0
+abbrev pub step_reads : Bool → ℕ → RenderOptions → Tree → ℕ → Mode → List Task → State → ℕ
+step_reads has old o (t.Group d) i m ts st = by_mode m (reads_here has old o d i Flat ts st) 0
+step_reads has old o (t.PartialUnion l r) i m ts st = by_mode m (reads_here has old o l i Break ts st) 0
+step_reads has old o d i m ts st = 0

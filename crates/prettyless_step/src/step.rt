@@ -55,10 +55,10 @@ fn probe_here<N: Walk>(
     ensures asked { OnOk result (RisesBy 1 probes.old probes.new) }
     ensures few { Few N.HAS_SUMMARIES (N.tree node) (tasks_of N.tree printer.old) 1 probes.old probes.new }
     ensures reads { IsFew N.HAS_SUMMARIES (N.tree node) (tasks_of N.tree printer.old) → OnOk result (RisesTo
-        (reads_here N.HAS_SUMMARIES printer.old.options (N.tree node) indent mode (tasks_of N.tree printer.old)
+        (reads_here N.HAS_SUMMARIES probes.old printer.old.options (N.tree node) indent mode (tasks_of N.tree printer.old)
         (state_of N.tree printer.old)) probes.old probes.new) }
     ensures reads_at_most { IsFew N.HAS_SUMMARIES (N.tree node) (tasks_of N.tree printer.old) → probes.new
-        ≤ probes.old + reads_here N.HAS_SUMMARIES printer.old.options (N.tree node) indent mode (tasks_of N.tree printer.old)
+        ≤ probes.old + reads_here N.HAS_SUMMARIES probes.old printer.old.options (N.tree node) indent mode (tasks_of N.tree printer.old)
         (state_of N.tree printer.old) }
 {
     let start = ProbeLine {
@@ -99,10 +99,10 @@ fn partial_choice<N: Walk>(
         probes.old probes.new }
     ensures reads { mode ≡ Break → IsFew N.HAS_SUMMARIES (N.tree first) (tasks_of N.tree printer.old)
         → OnOk result (RisesTo
-        (reads_here N.HAS_SUMMARIES printer.old.options (N.tree first) indent Break (tasks_of N.tree printer.old)
+        (reads_here N.HAS_SUMMARIES probes.old printer.old.options (N.tree first) indent Break (tasks_of N.tree printer.old)
         (state_of N.tree printer.old)) probes.old probes.new) }
     ensures reads_at_most { IsFew N.HAS_SUMMARIES (N.tree first) (tasks_of N.tree printer.old) → probes.new
-        ≤ probes.old + by_mode mode (reads_here N.HAS_SUMMARIES printer.old.options (N.tree first) indent Break
+        ≤ probes.old + by_mode mode (reads_here N.HAS_SUMMARIES probes.old printer.old.options (N.tree first) indent Break
         (tasks_of N.tree printer.old) (state_of N.tree printer.old)) 0 }
 {
     if let Mode::Flat = mode {
@@ -249,10 +249,10 @@ fn group<N: Walk>(
         probes.old probes.new }
     ensures reads { mode ≡ Break → IsFew N.HAS_SUMMARIES (N.tree inner) (tasks_of N.tree printer.old)
         → IfOk result (λ taken. IsStepped taken → RisesTo
-        (reads_here N.HAS_SUMMARIES printer.old.options (N.tree inner) indent Flat (tasks_of N.tree printer.old)
+        (reads_here N.HAS_SUMMARIES probes.old printer.old.options (N.tree inner) indent Flat (tasks_of N.tree printer.old)
         (state_of N.tree printer.old)) probes.old probes.new) }
     ensures reads_at_most { IsFew N.HAS_SUMMARIES (N.tree inner) (tasks_of N.tree printer.old) → probes.new
-        ≤ probes.old + by_mode mode (reads_here N.HAS_SUMMARIES printer.old.options (N.tree inner) indent Flat
+        ≤ probes.old + by_mode mode (reads_here N.HAS_SUMMARIES probes.old printer.old.options (N.tree inner) indent Flat
         (tasks_of N.tree printer.old) (state_of N.tree printer.old)) 0 }
     ensures queue { printer.new.queue ≡ printer.old.queue }
     ensures summed { OnOk result (IsSummed N.HAS_SUMMARIES N.tree printer.new.commands) }
@@ -301,10 +301,10 @@ fn partial_union<N: Walk>(
         probes.old probes.new }
     ensures reads { mode ≡ Break → IsFew N.HAS_SUMMARIES (N.tree first) (tasks_of N.tree printer.old)
         → IfOk result (λ taken. IsStepped taken → RisesTo
-        (reads_here N.HAS_SUMMARIES printer.old.options (N.tree first) indent Break (tasks_of N.tree printer.old)
+        (reads_here N.HAS_SUMMARIES probes.old printer.old.options (N.tree first) indent Break (tasks_of N.tree printer.old)
         (state_of N.tree printer.old)) probes.old probes.new) }
     ensures reads_at_most { IsFew N.HAS_SUMMARIES (N.tree first) (tasks_of N.tree printer.old) → probes.new
-        ≤ probes.old + by_mode mode (reads_here N.HAS_SUMMARIES printer.old.options (N.tree first) indent Break
+        ≤ probes.old + by_mode mode (reads_here N.HAS_SUMMARIES probes.old printer.old.options (N.tree first) indent Break
         (tasks_of N.tree printer.old) (state_of N.tree printer.old)) 0 }
     ensures queue { printer.new.queue ≡ printer.old.queue }
     ensures summed { OnOk result (IsSummed N.HAS_SUMMARIES N.tree printer.new.commands) }
@@ -382,10 +382,11 @@ pub fn step<'v, N: Walk>(
     ensures reads { 0 < each_probe (N.tree node.now) mode
         → IsFew N.HAS_SUMMARIES (N.tree node.now) (tasks_of N.tree printer.old)
         → IfOk result (λ taken. IsStepped taken → RisesTo
-        (step_reads N.HAS_SUMMARIES printer.old.options (N.tree node.now) indent mode (tasks_of N.tree printer.old)
+        (step_reads N.HAS_SUMMARIES visits.old.probes printer.old.options (N.tree node.now) indent mode (tasks_of N.tree printer.old)
         (state_of N.tree printer.old)) visits.old.probes visits.new.probes) }
     ensures reads_at_most { IsFew N.HAS_SUMMARIES (N.tree node.now) (tasks_of N.tree printer.old)
-        → visits.new.probes ≤ visits.old.probes + step_reads N.HAS_SUMMARIES printer.old.options (N.tree node.now) indent mode
+        → visits.new.probes ≤ visits.old.probes
+        + step_reads N.HAS_SUMMARIES visits.old.probes printer.old.options (N.tree node.now) indent mode
         (tasks_of N.tree printer.old) (state_of N.tree printer.old) }
     ensures queue { suffix_depth (N.tree node.now) ≡ 0 → some_pending (state_of N.tree printer.old).pending ≡ false
         → printer.new.queue ≡ printer.old.queue }
