@@ -10,10 +10,10 @@ pub mod choices;
 pub mod conversions;
 pub mod copies;
 pub mod enclosed;
+pub mod from_texts;
 pub mod indents;
 pub mod nodes;
 pub mod pretty;
-pub mod texts;
 pub mod tuples;
 
 pub use builder::DocBuilder;

@@ -11,7 +11,7 @@ ghost use Rattle.std.specs.Iterator.{IsFiniteIterable};
 
 mod alternatives;
 mod sequences;
-mod texts;
+mod text_values;
 mod tokens;
 pub mod types;
 mod wrappers;

@@ -2,7 +2,7 @@
 
 pub use crate::alternatives::{FlatAlt, IfColumn, IfNesting, PartialUnion, Union};
 pub use crate::sequences::{Concat, Intersperse};
-pub use crate::texts::{AsString, MultilineText, TextWithWidth};
+pub use crate::text_values::{AsString, MultilineText, TextWithWidth};
 pub use crate::tokens::{
     ExpandParent, Fail, HardLine, LineOrNil, LineOrSpace, Nil, SoftLineOrNil, SoftLineOrSpace,
     Space, Spaces, WeakLine, WeakSpace,

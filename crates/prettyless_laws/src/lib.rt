@@ -3,18 +3,18 @@
 #![tactic(auto)]
 
 mod flat;
-mod parts;
+mod groups;
 mod probed;
 mod regrouped;
 pub mod rows;
-mod texts;
+mod shown;
 mod total;
 mod traced;
 
 pub use flat::law_flat_group;
-pub use parts::law_parts;
+pub use groups::law_parts;
 pub use probed::law_probe;
 pub use regrouped::law_regroup;
-pub use texts::law_texts;
+pub use shown::law_texts;
 pub use total::law_total;
 pub use traced::{law_deferred, law_endings};

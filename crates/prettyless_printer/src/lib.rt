@@ -6,10 +6,10 @@
 
 pub mod answer;
 pub mod buffer;
+mod flat_texts;
 pub mod render;
 mod run;
 mod shift;
 mod shift_policy;
-mod texts;
 pub mod trial;
 pub mod turn;

@@ -9,7 +9,7 @@ ghost use Rattle.prettyless_printer.specs.Spending.{Spends, after_turn, left, ru
 ghost use Rattle.prettyless_printer.specs.Turns.{Advances, StopsPast};
 
 use crate::answer::TurnResult;
-use crate::texts::{lay_texts, make_room};
+use crate::flat_texts::{lay_texts, make_room};
 use prettyless_model::count::one_more;
 use prettyless_model::mode::Mode;
 use prettyless_probe::walk::Walk;

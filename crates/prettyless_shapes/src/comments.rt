@@ -7,7 +7,7 @@ ghost use Rattle.prettyless_shapes.specs.Items.{ShowsMore};
 ghost use Rattle.prettyless_shapes.specs.Shapes.{late_commented, commented};
 
 use crate::gaps::{ended, followed, spaced};
-use crate::texts::text;
+use crate::leaves::text;
 use prettyless_alloc::DocAllocator;
 use prettyless_build::Pretty;
 use prettyless_doc::{BuildError, DocPlace};

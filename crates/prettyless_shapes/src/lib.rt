@@ -8,11 +8,11 @@
 mod comments;
 mod gaps;
 mod indents;
+mod leaves;
 mod lists;
-mod texts;
 
 pub use comments::{with_comment, with_late_comment};
 pub use gaps::{ended, joined, lined, spaced, stacked, stacked_all};
 pub use indents::{block, broken, grouped, hanging, indented};
+pub use leaves::{nil, text};
 pub use lists::{ListStyle, list};
-pub use texts::{nil, text};

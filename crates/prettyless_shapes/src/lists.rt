@@ -8,7 +8,7 @@ ghost use Rattle.prettyless_shapes.specs.Items.{ShowsList};
 ghost use Rattle.prettyless_shapes.specs.Shapes as shapes;
 
 use crate::gaps::joined;
-use crate::texts::text;
+use crate::leaves::text;
 use prettyless_alloc::DocAllocator;
 use prettyless_build::{DocBuilder, Pretty};
 use prettyless_doc::{BuildError, DocPlace};

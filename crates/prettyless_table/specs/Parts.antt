@@ -8,10 +8,10 @@ use Rattle.prettyless_table.specs.declared.kind.Single.{Single}
 use Rattle.prettyless_table.specs.declared.kind.Single.TheVariants as one
 use Rattle.prettyless_table.specs.declared.kind.Pair.{Pair}
 use Rattle.prettyless_table.specs.declared.kind.Pair.TheVariants as two
-use Rattle.prettyless_table.specs.declared.parts.Parts.{Parts}
-use Rattle.prettyless_table.specs.declared.parts.Parts.TheVariants as parts
-use Rattle.prettyless_table.specs.declared.parts.Shape.{Shape}
-use Rattle.prettyless_table.specs.declared.parts.Shape.TheVariants as shape
+use Rattle.prettyless_table.specs.declared.below.Parts.{Parts}
+use Rattle.prettyless_table.specs.declared.below.Parts.TheVariants as parts
+use Rattle.prettyless_table.specs.declared.below.Shape.{Shape}
+use Rattle.prettyless_table.specs.declared.below.Shape.TheVariants as shape
 
 -- a node with one part
 abbrev pub single_tree : Single → ℤ → Tree → Tree

@@ -8,7 +8,7 @@ ghost use Rattle.prettyless_table.specs.Owners.{all_owners, documents_left, owne
 ghost use Rattle.prettyless_table.specs.Parts.{small};
 ghost use Rattle.prettyless_table.specs.Shift.{nodes_left};
 
-use crate::parts::{Parts, is_leaf, parts_below, takes_cell};
+use crate::below::{Parts, is_leaf, parts_below, takes_cell};
 use prettyless_probe::stack::Stack;
 use prettyless_probe::walk::Walk;
 use prettyless_step::printer::Printer;

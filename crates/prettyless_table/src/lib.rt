@@ -5,10 +5,10 @@
 //! itself, with its place in the table.
 #![tactic(auto)]
 
+mod below;
 mod cell;
 mod counting;
 mod kind;
-mod parts;
 mod placed;
 mod shift;
 mod sums;

@@ -9,8 +9,8 @@ ghost use Rattle.prettyless_summary.specs.Summary.{IsSmall, ReadsLook, Summarize
 ghost use Rattle.prettyless_table.specs.Parts.{pair_tree, parts_of, single_tree, small};
 ghost use Rattle.prettyless_table.specs.Sums.{AreDocumentSums, Keeps, IsModeSummary};
 
+use crate::below::{Shape, shape_of};
 use crate::kind::{Pair, Single};
-use crate::parts::{Shape, shape_of};
 use prettyless_model::mode::Mode;
 use prettyless_probe::walk::{View, Walk};
 use prettyless_summary::known::appended;

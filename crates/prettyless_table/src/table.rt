@@ -5,8 +5,8 @@ ghost use Rattle.prettyless_table.specs.Cells.{In};
 ghost use Rattle.prettyless_table.specs.Owners.{Stand};
 ghost use Rattle.prettyless_table.specs.Parts.{parts_of};
 
+use crate::below::{Parts, Shape, is_small, parts_below, shape_of};
 use crate::cell::Cell;
-use crate::parts::{Parts, Shape, is_small, parts_below, shape_of};
 use crate::sums::{NO_SUMS, Sums, in_mode, leaf_sums, of_pair, of_single, packed, small_sums};
 use prettyless_model::mode::Mode;
 use prettyless_probe::walk::Walk;

@@ -5,7 +5,7 @@ use Rattle.prettyless_doc.specs.Tree.{Tree}
 use Rattle.prettyless_alloc.specs.Shown.{text_items}
 use Rattle.prettyless_alloc.proofs.ShownItems.{text_shows}
 use Rattle.prettyless_shapes.proofs.Made.{of_made}
-use Rattle.prettyless_shapes.proofs.texts.text.Goals as goal
+use Rattle.prettyless_shapes.proofs.leaves.text.Goals as goal
 
 pub returns-clause-ok : goal.returns-clause-ok
 returns-clause-ok g c = search rules depth 1

@@ -3,7 +3,7 @@ use Rattle.prettyless_model.specs.Shows.{at_start}
 use Rattle.prettyless_model.proofs.Implied.{implied_from}
 use Rattle.prettyless_model.proofs.Showing.{layout_shows}
 use Rattle.prettyless_model.proofs.SpacedTexts.{layout_texts}
-use Rattle.prettyless_laws.proofs.texts.law_texts.Goals as goal
+use Rattle.prettyless_laws.proofs.shown.law_texts.Goals as goal
 
 pub returns-clause-shown : goal.returns-clause-shown
 returns-clause-shown c = layout_shows

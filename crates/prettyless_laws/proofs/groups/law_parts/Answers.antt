@@ -3,7 +3,7 @@ use Rattle.prettyless_laws.proofs.NeverFlat.{never_flat_is_broken}
 use Rattle.prettyless_laws.proofs.LineEnds.{laid_alike, breaks_read_alike, line_end_hides, line_end_hides_right, hard_takes_indent}
 use Rattle.prettyless_laws.proofs.LineEnds.{hard_ends_line, layout_ends}
 use Rattle.prettyless_laws.proofs.Sequences.{lay_in_turn}
-use Rattle.prettyless_laws.proofs.parts.law_parts.Goals as goal
+use Rattle.prettyless_laws.proofs.groups.law_parts.Goals as goal
 
 pub returns-clause-laid : goal.returns-clause-laid
 returns-clause-laid c = lay_inline

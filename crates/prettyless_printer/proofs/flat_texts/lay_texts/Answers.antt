@@ -8,9 +8,9 @@ use Rattle.prettyless_printer.proofs.Laying.{Laid, OneNode, TextFails, left_at, 
 use Rattle.prettyless_printer.proofs.Laying.{append_gives_way, either_gives_way, empty_gives_way, group_gives_way, nest_gives_way}
 use Rattle.prettyless_printer.proofs.Laying.{nil_gives_way, left_text, left_text_failed, left_trees-push}
 use Rattle.prettyless_printer.proofs.Laying.{length-left_trees, no_bytes, room_append, room_to_wait, some_bytes}
-use Rattle.prettyless_printer.proofs.texts.lay_texts.Goals as goal
-use Rattle.prettyless_printer.proofs.texts.lay_texts.Goals.{in-Text+then-not-is_empty+in_default-write_gap_and_text}
-use Rattle.prettyless_printer.proofs.texts.lay_texts.Goals.{in-Text+else-not-is_empty, in-Nil}
+use Rattle.prettyless_printer.proofs.flat_texts.lay_texts.Goals as goal
+use Rattle.prettyless_printer.proofs.flat_texts.lay_texts.Goals.{in-Text+then-not-is_empty+in_default-write_gap_and_text}
+use Rattle.prettyless_printer.proofs.flat_texts.lay_texts.Goals.{in-Text+else-not-is_empty, in-Nil}
 
 pub nodes-init : goal.nodes-init
 nodes-init g c =

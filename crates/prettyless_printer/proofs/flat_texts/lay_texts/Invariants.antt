@@ -4,7 +4,7 @@ use Rattle.prettyless_model.specs.Tree.{size}
 use Rattle.prettyless_printer.specs.Points.{point, seen}
 use Rattle.prettyless_printer.specs.Laying.{left_trees, trees_waiting}
 use Rattle.prettyless_printer.proofs.Laying.{Laid}
-use Rattle.prettyless_printer.proofs.texts.lay_texts.Given as goal
+use Rattle.prettyless_printer.proofs.flat_texts.lay_texts.Given as goal
 
 abbrev pub invariant-nodes : goal.invariant-nodes
 invariant-nodes g l =
