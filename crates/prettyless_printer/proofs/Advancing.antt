@@ -10,13 +10,14 @@ use Rattle.prettyless_probe.specs.Stack.{Task}
 use Rattle.prettyless_probe.specs.Probing.{RisesBy}
 use Rattle.prettyless_step.specs.Printing.{Shows}
 use Rattle.prettyless_step.specs.declared.printer.Printer.{Printer}
-use Rattle.prettyless_step.specs.declared.printer.StepResult.TheVariants.{Failed, Choice}
+use Rattle.prettyless_step.specs.declared.printer.StepResult.TheVariants as step_result
 use Rattle.prettyless_step.proofs.Shown.{IsStuck, IsChoice}
 use Rattle.prettyless_printer.specs.Points.{Standing, standing, state_at, Seen, Point, point_at, point}
 use Rattle.prettyless_printer.specs.Progress.{Inside}
 use Rattle.prettyless_printer.specs.Visits.{Plain, CountsAtMost}
 use Rattle.prettyless_printer.specs.AtLeast.{CountsAtLeast, tally_above, tally_choice}
 use Rattle.prettyless_printer.specs.Turns.{Advances, next_size}
+use Rattle.prettyless_printer.specs.declared.answer.Choice.{Choice}
 use Rattle.prettyless_printer.specs.declared.answer.TurnResult.TheVariants as turn_result
 use Rattle.prettyless_printer.proofs.Steps.{visits_within}
 use Rattle.prettyless_printer.proofs.Descends.{InHand, Visit, from_start}
@@ -117,28 +118,31 @@ failed_here {f} {a} {t} {b} h one fails =
 -- it fails
 pub advances_failed : {N E : Type 0} (f : N → Tree) {a : Point} {t : Task} {s : Seen} {v x : Visits} (p q : Printer N)
     → InHand a t (point f p s v) → Visit a.printer.options t (point f p s v) x →
-    Shows f t.mode Failed (step_from a.printer.options t (standing f p)) p q →
+    Shows f t.mode step_result.Failed (step_from a.printer.options t (standing f p)) p q →
     Advances {N = N} {E = E} f a (point f q s x) (Ok turn_result.Failed)
 advances_failed {N} {E} f {a} {t} {s} {x} p q h one shows =
     let k = stuck_there f t.mode (step_from a.printer.options t (standing f p)) p q shows in
     subst (λ (z : Standing). Advances {N = N} {E = E} f a (point_at z s x) (Ok turn_result.Failed)) (sym k.1) (failed_here h one k.0)
 
-choice_here : {N E : Type 0} {f : N → Tree} {a : Point} {t : Task} {b : Point} {x : Visits} {i : ℕ} {l r : N} → InHand a t b
-    → Visit a.printer.options t b x →
-    RisesBy (each_probe t.tree t.mode) b.visits.probes x.probes → IsChoice (step_from a.printer.options t b.printer) i (f l) (f r)
-    → Advances {N = N} {E = E} f a (point_at b.printer b.sink x) (Ok (turn_result.Choice i l r))
-choice_here {f} {a} {t} {b} {x} {i} {l} {r} h one probes wants =
+choice_here : {N E : Type 0} {f : N → Tree} {a : Point} {t : Task} {b : Point} {x : Visits} (choice : Choice N) → InHand a t b
+    → Visit a.printer.options t b x → RisesBy (each_probe t.tree t.mode) b.visits.probes x.probes
+    → IsChoice (step_from a.printer.options t b.printer) choice.indent (f choice.first) (f choice.second)
+    → Advances {N = N} {E = E} f a (point_at b.printer b.sink x) (Ok (turn_result.Choice choice))
+choice_here {f} {a} {t} {b} {x} choice h one probes wants =
+    let i = choice.indent in
+    let d = f choice.first in
+    let e = f choice.second in
     let o = a.printer.options in
     let ts : List Task = b.printer.tasks in
     let st = state_at b.printer in
     let out = known b.sink.bytes in
     let laid : OneLaid t b.visits x = record { printer = one.least; probes = probes } in
     let count = counted h one in
-    from_start f (Ok (turn_result.Choice i l r)) h
+    from_start f (Ok (turn_result.Choice choice)) h
     (record {
       options = h.options;
       grows = h.grows;
-      work_falls = (omega (arith, h.less, choice_work_falls o t ts st i (f l) (f r) wants), h.within);
+      work_falls = (omega (arith, h.less, choice_work_falls o t ts st i d e wants), h.within);
       same_lender = refl;
       bytes = λ is_known. (
         is_known,
@@ -153,23 +157,22 @@ choice_here {f} {a} {t} {b} {x} {i} {l} {r} h one probes wants =
       rise = rise_then h.rise one.rise;
       at_most = λ plain.
           let y = h.at_most plain in
-          let z = choice_at_most i (f l) (f r) one.more y.0 wants in
+          let z = choice_at_most i d e one.more y.0 wants in
           (record { none = omega (arith, y.0.0); pending = y.0.1 }, z.0, z.1, at_most_then y.1 z.2);
       at_least = λ n m. at_least_then (h.at_least n m)
-          (subst (λ (z : RenderOptions). CountsAtLeast (tally_above o n (t ∷ ts) st) (tally_choice z n i (f l) (f r) ts st) b.visits
-          x) (sym h.options)
-          (choice_at_least o n ts st i (f l) (f r) laid (omega (arith, m, h.long)) wants));
+          (subst (λ (z : RenderOptions). CountsAtLeast (tally_above o n (t ∷ ts) st) (tally_choice z n i d e ts st) b.visits x)
+          (sym h.options) (choice_at_least o n ts st i d e laid (omega (arith, m, h.long)) wants));
     })
 
 -- two branches are to be chosen from
-pub advances_choice : {N E : Type 0} (f : N → Tree) {a : Point} {t : Task} {s : Seen} {v x : Visits} {i : ℕ} {l r : N} (p q : Printer N)
-    → InHand a t (point f p s v) → Visit a.printer.options t (point f p s v) x →
-    RisesBy (each_probe t.tree t.mode) v.probes x.probes → Shows f t.mode (Choice i l r) (step_from a.printer.options t (standing f p)) p q
-    → Advances {N = N} {E = E} f a (point f q s x) (Ok (turn_result.Choice i l r))
-advances_choice {N} {E} f {a} {t} {s} {x} {i} {l} {r} p q h one probes shows =
-    let k = choice_there f t.mode i l r (step_from a.printer.options t (standing f p)) p q shows in
-    subst (λ (z : Standing). Advances {N = N} {E = E} f a (point_at z s x) (Ok (turn_result.Choice i l r))) (sym k.1)
-    (choice_here h one probes k.0)
+pub advances_choice : {N E : Type 0} (f : N → Tree) {a : Point} {t : Task} {s : Seen} {v x : Visits} (choice : Choice N) (p q : Printer N)
+    → InHand a t (point f p s v) → Visit a.printer.options t (point f p s v) x → RisesBy (each_probe t.tree t.mode) v.probes x.probes
+    → Shows f t.mode (step_result.Choice choice.indent choice.first choice.second) (step_from a.printer.options t (standing f p)) p q
+    → Advances {N = N} {E = E} f a (point f q s x) (Ok (turn_result.Choice choice))
+advances_choice {N} {E} f {a} {t} {s} {x} choice p q h one probes shows =
+    let k = choice_there f t.mode choice.indent choice.first choice.second (step_from a.printer.options t (standing f p)) p q shows in
+    subst (λ (z : Standing). Advances {N = N} {E = E} f a (point_at z s x) (Ok (turn_result.Choice choice))) (sym k.1)
+    (choice_here choice h one probes k.0)
 
 -- ---- Turns that ended in an error
 

@@ -11,6 +11,7 @@ use Rattle.prettyless_model.specs.Tree.{Tree}
 use Rattle.prettyless_probe.specs.Stack.{make_task}
 use Rattle.prettyless_printer.specs.declared.trial.Mark.{Mark}
 use Rattle.prettyless_printer.specs.declared.trial.OpenTrial.{OpenTrial}
+use Rattle.prettyless_printer.specs.declared.answer.Choice.{Choice}
 use Rattle.prettyless_printer.specs.declared.answer.TrialState.{TrialState}
 use Rattle.prettyless_printer.specs.declared.answer.TrialState.TheVariants as trial_state
 use Rattle.prettyless_printer.specs.declared.answer.TrialResult.{TrialResult}
@@ -109,15 +110,16 @@ open_begins {a} {i} {x} y marked begins = record {
 
 -- ---- A turn of the innermost trial
 
--- Trials were open at a point, and the innermost one took a turn, or came to its end.
+-- Trials were open at a point, and the innermost one took a turn, or came to its end; the same are open then.
 pub record Took {N E : Type 0} (f : N → Tree) (s : Trial) (y : Tree) (us : List Held) (a b : Point) (r : Result (TrialState N) E) : Type 0
   where
     pub trials : Open s y us a
     pub courses : TrialTurns f (below_all us) a b r
 
-pub took : {N : Type 0} (E : Type 0) (f : N → Tree) {s : Trial} {y : Tree} {us : List Held} {a b : Point} {r : Result (TrialState N) E}
-    → Open s y us a → TrialTurns f (below_all us) a b r → Took f s y us a b r
-took E f trials courses = record { trials = trials; courses = courses }
+pub took : {N : Type 0} (E : Type 0) (f : N → Tree) {s : Trial} {y : Tree} {us vs : List Held} {a b : Point} {r : Result (TrialState N) E}
+    → vs ≡ us → Open s y us a → TrialTurns f (below_all us) a b r → Took f s y vs a b r
+took E f {s} {y} {a = a} {b = b} {r = r} same trials courses =
+    subst (λ (z : List Held). Took f s y z a b r) (sym same) (record { trials = trials; courses = courses })
 
 module _ {N E : Type 0} {f : N → Tree} {s : Trial} {y : Tree} {a b : Point} where
   -- the innermost one goes on
@@ -149,23 +151,23 @@ module _ {N E : Type 0} {f : N → Tree} {s : Trial} {y : Tree} {a b : Point} wh
       chain_error s us k.trial b k.chain (rejected_error (h.courses k.trial k.on))
 
   -- a trial more was refused memory
-  pub open_choice_error : {us : List Held} {i : ℕ} {x z : N} → Took {E = E} f s y us a b (Ok (trial_state.Choice i x z)) → TrialError s b
+  pub open_choice_error : {us : List Held} {z : Choice N} → Took {E = E} f s y us a b (Ok (trial_state.Choice z)) → TrialError s b
   open_choice_error {us = []} h = absurd h.trials
-  open_choice_error {us = u ∷ us} {i} {x} {z} h =
+  open_choice_error {us = u ∷ us} {z} h =
       let k = h.trials in
-      chain_error s us k.trial b k.chain (choice_error i (f x) (f z) (h.courses k.trial k.on).0)
+      chain_error s us k.trial b k.chain (choice_error z.indent (f z.first) (f z.second) (h.courses k.trial k.on).0)
 
   -- a trial of a first branch is opened
-  pub open_more : {us vs : List Held} {i : ℕ} {x z : N} {q : Standing} → Took {E = E} f s y us a b (Ok (trial_state.Choice i x z))
-      → Opens f i (f z) b.printer b.sink us vs → BeginsTrial i (f x) b.printer q → IsUtf8 (known b.sink.bytes)
+  pub open_more : {us vs : List Held} {z : Choice N} {q : Standing} → Took {E = E} f s y us a b (Ok (trial_state.Choice z))
+      → Opens f z.indent (f z.second) b.printer b.sink us vs → BeginsTrial z.indent (f z.first) b.printer q → IsUtf8 (known b.sink.bytes)
       → Open s y vs (point_at q b.sink b.visits)
   open_more {us = []} h opens begins text = absurd h.trials
-  open_more {us = u ∷ us} {i} {x} {z} {q} h opens begins text =
+  open_more {us = u ∷ us} {z} {q} h opens begins text =
       let k = h.trials in
-      let w : Held = record { mark = opens.mark; indent = i; second = f z } in
+      let w : Held = record { mark = opens.mark; indent = z.indent; second = f z.second } in
       let choice = (h.courses k.trial k.on).0 in
       let marked : Marked opens.mark b = record { marks = opens.marks; is_known = choice.is_known; text = text } in
-      let t : Trial = make_trial b i (f x) in
+      let t : Trial = make_trial b z.indent (f z.first) in
       subst (λ (ws : List Held). Open s y ws (point_at q b.sink b.visits)) (sym opens.more)
       (record {
         holds = k.holds;

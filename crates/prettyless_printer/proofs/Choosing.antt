@@ -1,17 +1,19 @@
 -- A choice that waits is made as its trial came out.
-use Rattle.std.proofs.Common.{◌≡◌, ℕ, List, [], ◌∷◌, ◌++◌, refl, ap, sym, ◌∙◌, arith, subst, Ok, Err, true, IsSome}
-use Rattle.std.specs.Str.{IsUtf8}
+use Rattle.std.proofs.Common.{◌≡◌, ℕ, List, [], ◌∷◌, ◌++◌, refl, ap, sym, ◌∙◌, arith, subst, Ok, Err, true}
+use Rattle.std.specs.String.{string_bytes}
+use Rattle.std.proofs.lemmas.Str.{IsUtf8-string_bytes}
 use Rattle.prettyless_sink.specs.Sink.{Accepts, AppendsBeginning, IfKnown, Refuses, known}
 use Rattle.prettyless_sink.specs.declared.error.RenderError.TheVariants.{Memory, Sink}
 use Rattle.prettyless_model.specs.Tree.{Tree}
 use Rattle.prettyless_model.specs.Layout.{State}
 use Rattle.prettyless_probe.specs.Stack.{nodes}
 use Rattle.prettyless_step.specs.Steps.{pending_work}
-use Rattle.prettyless_printer.specs.Points.{Point, Seen, Standing, point_at}
+use Rattle.prettyless_printer.specs.declared.run.Run.{Run}
+use Rattle.prettyless_printer.specs.Points.{Point, Seen, buffer_seen, point_at, point_of, standing, trial_point}
 use Rattle.prettyless_printer.specs.Trials.{TrialError, Tries, make_trial}
-use Rattle.prettyless_printer.specs.Open.{BeginsTrial, Undone, Held, Open, Opens}
+use Rattle.prettyless_printer.specs.Open.{BeginsTrial, Undone, Held, Open, Opens, held_of}
 use Rattle.prettyless_printer.specs.Paths.{Chooses}
-use Rattle.prettyless_printer.specs.Runs.{InChoice}
+use Rattle.prettyless_printer.specs.Runs.{InChoice, station_of}
 use Rattle.prettyless_printer.proofs.Chains.{open_begins}
 use Rattle.prettyless_printer.proofs.PathSteps.{choice_refused, choice_unwritten, goes_on_kept, goes_on_other}
 use Rattle.prettyless_printer.proofs.TrialSteps.{began_plain}
@@ -90,18 +92,21 @@ chooses_error {i} {x} {a} {s} {z} error same = record {
       error.rise (λ plain none. error.at_most (began_plain (make_trial (point_at a.printer s a.visits) i x) plain none));
 }
 
--- its trial is opened, and no other one is open
-pub choice_opens : {N : Type 0} {f : N → Tree} {i : ℕ} {x y : Tree} {a : Point} {s : Seen} {us vs : List Held} {q : Standing} → us ≡ []
-    → known s.bytes ≡ [] → IsSome s.bytes → IsUtf8 (known s.bytes) →
-    Opens f i y a.printer s us vs → BeginsTrial i x a.printer q → InChoice i x y a vs s (point_at q a.sink a.visits)
-choice_opens {i} {x} {y} {a} {s} {vs} {q} none empty is_known text opens begun =
+-- its trial is opened by a run whose buffer is empty, and no other one is open
+pub choice_opens : {N : Type 0} {f : N → Tree} {i : ℕ} {x y : Tree} {s : Seen} (r q : Run N) → held_of f r ≡ []
+    → string_bytes r.buffer.text ≡ [] → q ≡ record r { printer = q.printer; trials = q.trials } →
+    Opens f i y (standing f r.printer) (buffer_seen r.buffer) (held_of f r) (held_of f q)
+    → BeginsTrial i x (standing f r.printer) (standing f q.printer) → InChoice i x y (point_of f r s) (station_of f q s)
+choice_opens {N} {f} {i} {x} {y} {s} r q none empty others opens begun =
     let one : Held = record { mark = opens.mark; indent = i; second = y } in
-    let start : Point = point_at a.printer s a.visits in
-    let alone : vs ≡ one ∷ [] = opens.more ∙ ap (λ (u : List Held). u ++ one ∷ []) none in
-    record {
-      before = s;
+    let buffer : Seen = buffer_seen r.buffer in
+    let start : Point = trial_point f r in
+    let alone : held_of f q ≡ one ∷ [] = opens.more ∙ ap (λ (u : List Held). u ++ one ∷ []) none in
+    subst (λ (z : Run N). InChoice i x y (point_of f r s) (station_of f z s)) (sym others)
+    (record {
+      before = buffer;
       empty = empty;
-      trials = subst (λ (u : List Held). Open (make_trial start i x) y u (point_at q s a.visits)) (sym alone)
-          (open_begins y (record { marks = opens.marks; is_known = is_known; text = text }) begun);
+      trials = subst (λ (u : List Held). Open (make_trial start i x) y u (point_at (standing f q.printer) buffer r.visits)) (sym alone)
+          (open_begins y (record { marks = opens.marks; is_known = refl; text = IsUtf8-string_bytes r.buffer.text }) begun);
       sink = refl;
-    }
+    })

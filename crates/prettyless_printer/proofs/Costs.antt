@@ -13,6 +13,7 @@ use Rattle.prettyless_model.specs.Tree.{Tree, size}
 use Rattle.prettyless_probe.specs.Stack.{Task, make_task, nodes}
 use Rattle.prettyless_step.specs.Steps.{pending_work}
 use Rattle.prettyless_probe.proofs.Sizes.{size_positive}
+use Rattle.prettyless_printer.specs.declared.answer.Choice.{Choice}
 use Rattle.prettyless_printer.specs.declared.answer.TrialState.TheVariants as trial_state
 use Rattle.prettyless_printer.specs.Points.{Standing, state_at, QueueGrows, Point, work_at}
 use Rattle.prettyless_printer.specs.Trials.{Trial, TrialRunning, Restores}
@@ -148,29 +149,29 @@ module _ {N E : Type 0} {f : N → Tree} {s : Trial} {y : Tree} {a b : Point} wh
       )
 
   -- a trial more is open
-  pub less_more : {us vs : List Held} {i : ℕ} {x z : N} (c : Point) → Took {E = E} f s y us a b (Ok (trial_state.Choice i x z))
-      → Opens f i (f z) b.printer b.sink us vs → BeginsTrial i (f x) b.printer c.printer → IsUtf8 (known b.sink.bytes)
-      → left_at c vs < left_at a us
+  pub less_more : {us vs : List Held} {z : Choice N} (c : Point) → Took {E = E} f s y us a b (Ok (trial_state.Choice z))
+      → Opens f z.indent (f z.second) b.printer b.sink us vs → BeginsTrial z.indent (f z.first) b.printer c.printer
+      → IsUtf8 (known b.sink.bytes) → left_at c vs < left_at a us
   less_more {us = []} c h opens begins text = absurd h.trials
-  less_more {us = o ∷ us} {i} {x} {z} c h opens begins text =
+  less_more {us = o ∷ us} {z} c h opens begins text =
       let q = c.printer in
-      let u : Held = record { mark = opens.mark; indent = i; second = f z } in
+      let u : Held = record { mark = opens.mark; indent = z.indent; second = f z.second } in
       let l = h.trials in
       let t = l.trial in
       let k = h.courses t l.on in
       let marked : Marked opens.mark b = record { marks = opens.marks; is_known = k.0.is_known; text = text } in
       let waits = (k.0.waiting.bytes l.on.is_known).1.0 in
-      let over_b : Above b.printer q = (make_task i Break (f x) ∷ [], begins.tasks, begins.grows) in
+      let over_b : Above b.printer q = (make_task z.indent Break (f z.first) ∷ [], begins.tasks, begins.grows) in
       let over_t : Above t.start.printer q =
       above-above t.start.printer b.printer q (waits.above, waits.stack_is, k.0.waiting.queue) over_b in
       let same = cost_same s o us t a.printer q l.holds.marked l.chain (above_trial l.on) over_t in
       let split = ap (cost q) opens.more ∙ cost_push q (o ∷ us) u in
       let second = second_is u b q marked over_b in
-      let first : work_at c ≡ 2 * size (f x) + work_at b =
+      let first : work_at c ≡ 2 * size (f z.first) + work_at b =
       omega (arith, ap nodes begins.tasks, ap (λ (i : State). pending_work i.pending) begins.state) in
       let two = pow_two (work_at c) (second_work q u) (work_at a - 1)
-      (omega (arith, first, second, k.1, size_positive (f z), size_positive (f x)))
-      (omega (arith, first, second, k.1, size_positive (f z), size_positive (f x))) in
+      (omega (arith, first, second, k.1, size_positive (f z.second), size_positive (f z.first)))
+      (omega (arith, first, second, k.1, size_positive (f z.second), size_positive (f z.first))) in
       omega (arith, two, same, split, pow-lt {i = work_at a - 1} {j = work_at a} (omega (arith, k.1)))
 
   -- an inner trial is kept

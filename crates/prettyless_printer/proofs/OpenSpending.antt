@@ -66,13 +66,14 @@ pub record OpenBetween (s : Trial) (y : Tree) (us vs : List Held) (a b : Point) 
   pub plain : IsPlainTrial s y
 
 -- the innermost of open trials takes a turn, or comes to its end
-pub open_spends : {has : Bool} {limit : ℕ} {s : Trial} {y : Tree} {us vs : List Held} {a b : Point} {start : Left} {ts : List Task}
-    {q : List Tree} {w : Visits} → OpenBetween s y us vs a b →
+pub open_spends : {has : Bool} {limit : ℕ} {s : Trial} {y : Tree} {us vs ws : List Held} {a b : Point} {start : Left} {ts : List Task}
+    {q : List Tree} {w : Visits} → ws ≡ vs → OpenBetween s y us vs a b →
     Spends (rule_of has limit) start (left b.printer (seconds vs) b.visits) →
     (Plain b.printer → Spends (rule_of has limit) (left b.printer [] b.visits) (on_tasks ts q w)) →
-    Spends (rule_of has limit) start (record (on_tasks ts q w) { seconds = seconds vs })
-open_spends {has} {limit} {s} {y} {us} {vs} {a} {b} between h k =
-    spends_then h (spends_beside (seconds vs) (k (open_plain s y b vs between.now between.plain)))
+    Spends (rule_of has limit) start (record (on_tasks ts q w) { seconds = seconds ws })
+open_spends {has} {limit} {s} {y} {us} {vs} {ws} {a} {b} {start} {ts} {q} {w} same between h k =
+    subst (λ (z : List Held). Spends (rule_of has limit) start (record (on_tasks ts q w) { seconds = seconds z })) (sym same)
+    (spends_then h (spends_beside (seconds vs) (k (open_plain s y b vs between.now between.plain))))
 
 -- what ended in an error has nothing left
 pub spends_error_as : {A E : Type 0} {r : Rule} {a : Left} (b : Left) (result : Result A E) → IsErr result → Spends r a (none_left b.visits)

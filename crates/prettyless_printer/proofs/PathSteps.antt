@@ -12,6 +12,7 @@ use Rattle.prettyless_model.specs.Layout.{State, Outcome}
 use Rattle.prettyless_model.proofs.Outcomes.{after-nil}
 use Rattle.prettyless_probe.specs.Stack.{Task, make_task, nodes}
 use Rattle.prettyless_step.specs.Steps.{pending_work}
+use Rattle.prettyless_printer.specs.declared.answer.Choice.{Choice}
 use Rattle.prettyless_printer.specs.declared.answer.TurnResult.TheVariants as turn_result
 use Rattle.prettyless_printer.specs.Points.{Standing, state_at, QueueGrows, Seen, Point, point_at, work_at}
 use Rattle.prettyless_printer.specs.Progress.{Inside}
@@ -113,11 +114,11 @@ stops f p l h =
     })
 
 -- a turn after which two branches are to be chosen from
-pub path_to_choice : {N E : Type 0} (f : N → Tree) {r : Run} {a b : Point} (i : ℕ) (x y : N) → Path r a
+pub path_to_choice : {N E : Type 0} (f : N → Tree) {r : Run} {a b : Point} (choice : Choice N) → Path r a
     → length r.below < length a.printer.tasks →
-    Advances {N = N} {E = E} f a b (Ok (turn_result.Choice i x y)) → length r.below ≤ length b.printer.tasks
-    → PathToChoice r i (f x) (f y) b
-path_to_choice f {r} {a} {b} i x y p l h long = record {
+    Advances {N = N} {E = E} f a b (Ok (turn_result.Choice choice)) → length r.below ≤ length b.printer.tasks
+    → PathToChoice r choice.indent (f choice.first) (f choice.second) b
+path_to_choice f {r} {a} {b} choice p l h long = record {
   options = h.options ∙ p.options;
   queue = begins-grows r.queue a.printer b.printer p.queue h.grows;
   same_lender = h.same_lender ∙ p.same_lender;
@@ -128,7 +129,7 @@ path_to_choice f {r} {a} {b} i x y p l h long = record {
       let e = h.bytes y'.0 in (
         e.0,
         (
-          at_run (λ o. TurnHolds f o b.printer (known b.sink.bytes) (turn_result.Choice i x y)) p l is_known e.1.0,
+          at_run (λ o. TurnHolds f o b.printer (known b.sink.bytes) (turn_result.Choice choice)) p l is_known e.1.0,
           e.1.1 ∙ y'.1.1,
         ),
       );

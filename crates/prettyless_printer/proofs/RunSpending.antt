@@ -4,13 +4,14 @@ use Rattle.prettyless_sink.specs.declared.visits.Visits.{Visits}
 use Rattle.prettyless_model.specs.declared.mode.Mode.TheVariants.{Break}
 use Rattle.prettyless_model.specs.Tree.{Tree}
 use Rattle.prettyless_probe.specs.Stack.{make_task}
-use Rattle.prettyless_printer.specs.Points.{Standing, state_at, Seen, Point}
+use Rattle.prettyless_printer.specs.declared.run.Run.{Run}
+use Rattle.prettyless_printer.specs.Points.{Standing, state_at, Seen, Point, standing}
 use Rattle.prettyless_printer.specs.Visits.{Plain}
-use Rattle.prettyless_printer.specs.Open.{BeginsTrial, Held, Opens, seconds}
+use Rattle.prettyless_printer.specs.Open.{BeginsTrial, Held, Opens, held_of, seconds}
 use Rattle.prettyless_printer.specs.Paths.{Path, PathToChoice, run_of}
 use Rattle.prettyless_printer.specs.Renders.{Continues, RunsCommands}
-use Rattle.prettyless_printer.specs.Runs.{RunReachesChoice}
-use Rattle.prettyless_printer.specs.Spending.{IsPlainChoice, Left, Rule, Spends, SpendsAs, left, left_choice, rule_of}
+use Rattle.prettyless_printer.specs.Runs.{RunReachesChoice, Station}
+use Rattle.prettyless_printer.specs.Spending.{IsPlainChoice, Left, Rule, Spends, SpendsAs, left, left_alone, left_choice, left_of, rule_of}
 use Rattle.prettyless_printer.proofs.Spending.{spends_same, spends_then}
 use Rattle.prettyless_printer.proofs.OpenSpending.{spends_more}
 
@@ -21,17 +22,20 @@ spends_then_as c (Ok x) h k = spends_then h k
 spends_then_as c (Err e) h k = spends_then h k
 
 -- outside of trials no second branch waits
-pub seconds_none : {r : Rule} {a : Left} (p : Standing) (us : List Held) (v : Visits) → us ≡ [] → Spends r a (left p (seconds us) v)
-    → Spends r a (left p [] v)
-seconds_none {r} {a} p us v none h = subst (λ (z : List Held). Spends r a (left p (seconds z) v)) none h
+alone : {N : Type 0} (f : N → Tree) (q : Run N) → held_of f q ≡ [] → left_of f q ≡ left_alone f q
+alone f q none = ap (λ (us : List Held). left (standing f q.printer) (seconds us) q.visits) none
 
-pub none_seconds : {r : Rule} {a : Left} (p : Standing) (us : List Held) (v : Visits) → us ≡ [] → Spends r a (left p [] v)
-    → Spends r a (left p (seconds us) v)
-none_seconds {r} {a} p us v none h = subst (λ (z : List Held). Spends r a (left p (seconds z) v)) (sym none) h
+pub seconds_none : {N : Type 0} {r : Rule} {a : Left} (f : N → Tree) (q : Run N) → held_of f q ≡ [] → Spends r a (left_of f q)
+    → Spends r a (left_alone f q)
+seconds_none {r} {a} f q none h = subst (λ (l : Left). Spends r a l) (alone f q none) h
 
-pub from_none : {r : Rule} {b : Left} (p : Standing) (us : List Held) (v : Visits) → us ≡ [] → Spends r (left p (seconds us) v) b
-    → Spends r (left p [] v) b
-from_none {r} {b} p us v none h = subst (λ (z : List Held). Spends r (left p (seconds z) v) b) none h
+pub none_seconds : {N : Type 0} {r : Rule} {a : Left} (f : N → Tree) (q : Run N) → held_of f q ≡ [] → Spends r a (left_alone f q)
+    → Spends r a (left_of f q)
+none_seconds {r} {a} f q none h = subst (λ (l : Left). Spends r a l) (sym (alone f q none)) h
+
+pub from_none : {N : Type 0} {r : Rule} {b : Left} (f : N → Tree) (q : Run N) → held_of f q ≡ [] → Spends r (left_of f q) b
+    → Spends r (left_alone f q) b
+from_none {r} {b} f q none h = subst (λ (l : Left). Spends r l b) (alone f q none) h
 
 -- a run of all commands has reached a point, and goes on there
 pub path_spends : {has : Bool} {limit : ℕ} {a b : Point} {c : Left} → Path (run_of a) b → Plain a.printer →
@@ -69,6 +73,6 @@ pub nothing_pending : {A E : Type 0} (fails : E → Type 0) {a b c : Point} (x :
 nothing_pending fails x h plain k some = omega (arith, some, ap length (k.at_most (h.at_most plain).0).0.pending)
 
 -- a run has reached a choice without line suffixes
-pub came_plain : {a : Point} {us : List Held} {buffer : Seen} {b : Point} (h : RunReachesChoice a us buffer b) → Plain a.printer
+pub came_plain : {a : Point} {z : Station} (h : RunReachesChoice a z) → Plain a.printer
     → IsPlainChoice h.at.printer h.first h.second
 came_plain h plain = plain_waiting h.waiting (h.continues.at_most plain).0

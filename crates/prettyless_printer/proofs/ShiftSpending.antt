@@ -1,18 +1,19 @@
 -- How many nodes probes visit before a shift and after it: it comes where they visited much more than the printer, and after it each
 -- visits two.
-use Rattle.std.proofs.Common.{◌≡◌, ℕ, ◌+◌, ◌*◌, ◌-◌, ◌^◌, ◌≤◌, ◌<◌, List, [], ◌∷◌, Bool, true, length, refl, ap, sym, subst, arith, min}
+use Rattle.std.proofs.Common.{◌≡◌, ℕ, ◌+◌, ◌*◌, ◌-◌, ◌^◌, ◌≤◌, ◌<◌, List, [], ◌∷◌, Bool, true, length, refl, ap, sym, subst, arith}
+use Rattle.std.proofs.Common.{max, min, zero, suc}
 use Rattle.std.specs.List.{sum_by}
 use Rattle.prettyless_sink.specs.declared.visits.Visits.{Visits}
 use Rattle.prettyless_model.specs.Tree.{Tree, size}
 use Rattle.prettyless_probe.specs.Stack.{nodes, trees}
-use Rattle.prettyless_step.specs.declared.printer.Printer.{Printer}
-use Rattle.prettyless_table.specs.Shift.{nodes_left}
+use Rattle.prettyless_printer.specs.declared.run.Run.{Run}
 use Rattle.prettyless_printer.specs.declared.shift_policy.ShiftPolicy.{ShiftPolicy}
-use Rattle.prettyless_printer.specs.Points.{Standing, standing}
+use Rattle.prettyless_printer.specs.Points.{Standing}
 use Rattle.prettyless_printer.specs.ShiftPolicy.{probe_limit}
 use Rattle.prettyless_printer.specs.Open.{Held, seconds}
 use Rattle.prettyless_printer.specs.Linear.{IsLinearBound, IsLinearStart}
-use Rattle.prettyless_printer.specs.Spending.{AllHaveSummaries, Left, Spends, left, left_nodes, none_left, rule_of}
+use Rattle.prettyless_printer.specs.Spending.{AllHaveSummaries, Left, Spends, left, left_nodes, left_of, none_left, rule_of}
+use Rattle.prettyless_printer.specs.Storing.{run_nodes}
 
 -- How far a run has come before a shift, from n nodes: what is left allows for two visits of a node each.
 pub record Within (n : ℕ) (v : Visits) (l : Left) : Type 0 where
@@ -33,10 +34,6 @@ within_start p us v none linear =
       have = (linear.have, tt);
       probes = omega arith;
     })
-
--- nothing was visited since
-pub within_still : {n : ℕ} {v w x : Visits} (p : Standing) (ds : List Tree) → x ≡ w → Within n v (left p ds w) → Within n v (left p ds x)
-within_still {n} {v} {w} {x} p ds same h = subst (λ (z : Visits). Within n v (left p ds z)) (sym same) h
 
 -- it goes on to the limit
 pub within_goes : {n : ℕ} {v : Visits} {a b : Left} (has : Bool) (g : ShiftPolicy) (limit : ℕ) →
@@ -78,20 +75,34 @@ pub all_over : {w v : Visits} {p : Standing} {limit : ℕ} → IsLinearStart p �
 all_over {w} {v} {p} {limit} linear k room =
     omega (arith, over_table k (omega (arith, linear.size)) (linear.have, tt) (omega (arith, room)))
 
--- twice as many are few
-pub few_more : (n : ℕ) (v w : Visits) → IsLinearBound 2 0 n v w → IsLinearBound 16 1000 n v w
-few_more n v w h room = omega (arith, h room)
-
--- nothing was visited before them
-pub few_still : (factor more n : ℕ) {v w : Visits} (x : Visits) → w ≡ v → IsLinearBound factor more n w x → IsLinearBound factor more n v x
-few_still factor more n {v} {w} x same few = subst (λ (y : Visits). IsLinearBound factor more n y x) same few
-
 queue_none : {N : Type 0} (f : N → Tree) (xs : List N) → trees f xs ≡ [] → sum_by (λ n. size (f n)) xs ≡ 0
 queue_none {N} f [] h = refl
 queue_none {N} f (x ∷ xs) h = absurd (omega (arith, ap length h))
 
--- a table for which there was no room would have had more nodes than that
-pub no_room : {N : Type 0} (f : N → Tree) (p : Printer N) (ds : List Tree) (room n : ℕ) (v : Visits) → (standing f p).queue ≡ []
-    → left_nodes (left (standing f p) ds v) ≤ n → n ≤ 4294967294 →
-    min room 4294967294 < nodes_left f p + sum_by size ds → room < n
-no_room {N} f p ds room n v none within small large = omega (arith, within, small, large, queue_none f p.queue.nodes.items none)
+-- where no table was made, what is left has more nodes than there was room for, if there was any
+pub no_room : {N : Type 0} (f : N → Tree) (r : Run N) (room n : ℕ) {v : Visits} → Within n v (left_of f r) → n ≤ 4294967294
+    → (0 < room → min room 4294967294 < run_nodes f r) → 0 < room → room < n
+no_room f r room n within small large some =
+    omega (arith, within.left, small, large some, queue_none f r.printer.queue.nodes.items within.queue)
+
+room_within : (room n : ℕ) → (0 < room → room < n) → room ≤ n
+room_within zero n less = omega arith
+room_within (suc k) n less = omega (arith, less (omega arith))
+
+pub no_more_room : {N : Type 0} (f : N → Tree) (r : Run N) (room n : ℕ) {v : Visits} → Within n v (left_of f r) → n ≤ 4294967294
+    → (0 < room → min room 4294967294 < run_nodes f r) → room ≤ n
+no_more_room f r room n within small large = room_within room n (no_room f r room n within small large)
+
+-- and the run, which nothing has changed, goes on to the limit
+pub goes_on_without : {N : Type 0} (f : N → Tree) (has : Bool) (g : ShiftPolicy) (limit room n : ℕ) {v : Visits} {r q : Run N} {b : Left}
+    → q ≡ r → Within n v (left_of f r) → n ≤ 4294967294 → (0 < room → min room 4294967294 < run_nodes f r) →
+    g.next_try ≤ max n room → g.start ≡ v → limit ≡ probe_limit g q.visits → Spends (rule_of has limit) (left_of f q) b → Within n v b
+goes_on_without {N} f has g limit room n {v} {r} {q} same within small large next start is spends =
+    within_goes has g limit is start (omega (arith, next, no_more_room f r room n within small large))
+    (subst (λ (x : Run N). Within n v (left_of f x)) (sym same) within) spends
+
+-- a table that had room for all nodes at first was made
+pub always_room : {N : Type 0} (f : N → Tree) (r : Run N) {room first n : ℕ} {v : Visits} → room ≡ first → 0 < first → n ≤ first
+    → Within n v (left_of f r) → n ≤ 4294967294 → (0 < room → min room 4294967294 < run_nodes f r) → ⊥
+always_room f r {room} {first} {n} same some all within small large =
+    omega (arith, same, all, no_room f r room n within small large (omega (arith, same, some)))

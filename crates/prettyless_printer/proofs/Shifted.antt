@@ -12,17 +12,18 @@ use Rattle.prettyless_probe.specs.Stack.{nodes}
 use Rattle.prettyless_probe.specs.Sums.{HaveSummaries}
 use Rattle.prettyless_step.specs.declared.printer.Printer.{Printer}
 use Rattle.prettyless_table.specs.Shift.{IsShifted}
-use Rattle.prettyless_printer.specs.declared.trial.OpenTrial.{OpenTrial}
-use Rattle.prettyless_printer.specs.Points.{Point, Seen, Standing, point_at, standing}
+use Rattle.prettyless_printer.specs.declared.buffer.Buffer.{Buffer}
+use Rattle.prettyless_printer.specs.declared.run.Run.{Run}
+use Rattle.prettyless_printer.specs.Points.{Point, Seen, Standing, buffer_seen, point_of, standing}
 use Rattle.prettyless_printer.specs.Visits.{suffix_depths}
 use Rattle.prettyless_printer.specs.Linear.{IsLinearBound, IsLinear, IsLinearStart}
-use Rattle.prettyless_printer.specs.Open.{Held, all_held, seconds}
+use Rattle.prettyless_printer.specs.Open.{Held, all_held, held_of, seconds}
 use Rattle.prettyless_printer.specs.Spending.{Left, Rule, Spends, left}
-use Rattle.prettyless_printer.specs.Runs.{RunReaches}
-use Rattle.prettyless_printer.specs.Renders.{Begins, EndsAnywhere, Renders, RunsToEnd}
+use Rattle.prettyless_printer.specs.Runs.{RunReaches, Station, station_at, station_of}
+use Rattle.prettyless_printer.specs.Renders.{Begins, Renders, RunsToEnd}
 use Rattle.prettyless_printer.proofs.Renders.{renders}
 use Rattle.prettyless_printer.proofs.Visits.{rise_same}
-use Rattle.prettyless_printer.proofs.Shifts.{continues_same}
+use Rattle.prettyless_printer.proofs.Shifts.{comes_alone, continues_same}
 
 -- a printer over other nodes stands where this one does
 pub shifted_stands : {N M : Type 0} (f : N → Tree) (g : M → Tree) (p : Printer N) (q : Printer M) → IsShifted f g p q
@@ -36,40 +37,27 @@ shifted_stands {N} {M} f g p q h = λ j. record {
   start = h.start j;
 }
 
--- a run reaches where its printer and its trials stand, whatever their nodes
-pub comes_over : (a : Point) {us vs : List Held} {p q : Standing} (buffer s : Seen) (v : Visits) → vs ≡ us → q ≡ p
-    → RunReaches a us buffer (point_at p s v) → RunReaches a vs buffer (point_at q s v)
-comes_over a {us} {vs} {p} {q} buffer s v same stands comes =
-    subst (λ (xs : List Held). RunReaches a xs buffer (point_at q s v)) (sym same)
-    (subst (λ (x : Standing). RunReaches a us buffer (point_at x s v)) (sym stands) comes)
+-- and a run over them is where this one is
+pub same_station : {N : Type 0} (f : N → Tree) (r : Run N) (s : Seen) {us : List Held} {p : Standing} {b : Buffer} → us ≡ held_of f r
+    → p ≡ standing f r.printer → b ≡ r.buffer → station_at p s r.visits us (buffer_seen b) ≡ station_of f r s
+same_station f r s held stands buffer = λ j. station_at (stands j) s r.visits (held j) (buffer_seen (buffer j))
 
 -- what it leaves then is what it leaves over the other nodes
-pub spends_over : {r : Rule} {us vs : List Held} {p q : Standing} {v : Visits} {b : Left} → vs ≡ us → q ≡ p
-    → Spends r (left q (seconds vs) v) b → Spends r (left p (seconds us) v) b
-spends_over {r} {us} {vs} {p} {q} {v} {b} same stands h =
-    subst (λ (x : List Held). Spends r (left p (seconds x) v) b) same
-    (subst (λ (x : Standing). Spends r (left x (seconds vs) v) b) stands h)
+pub spends_over : {r : Rule} {w z : Station} {b : Left} → w ≡ z
+    → Spends r (left w.point.printer (seconds w.held) w.point.visits) b → Spends r (left z.point.printer (seconds z.held) z.point.visits) b
+spends_over {r} {w} {z} {b} same h =
+    subst (λ (x : Station). Spends r (left x.point.printer (seconds x.held) x.point.visits) b) same h
 
 -- nothing has changed
-pub comes_still : (a : Point) (us : List Held) (p : Standing) {b c s t : Seen} {v w : Visits} → t ≡ s → w ≡ v → c ≡ b
-    → RunReaches a us b (point_at p s v) → RunReaches a us c (point_at p t w)
-comes_still a us p {b} {c} {s} {t} {v} {w} sink visits buffer comes =
-    subst (λ (x : Seen). RunReaches a us x (point_at p t w)) (sym buffer)
-    (subst (λ (x : Seen). RunReaches a us b (point_at p x w)) (sym sink)
-    (subst (λ (x : Visits). RunReaches a us b (point_at p s x)) (sym visits) comes))
-
--- a run to the end from there
-pub ends_still : {A E : Type 0} {fails : E → Type 0} (p : Standing) {s t u : Seen} {v w x : Visits} {r : Result A (RenderError E)} → t ≡ s
-    → w ≡ v → EndsAnywhere fails (point_at p t w) u x r → EndsAnywhere fails (point_at p s v) u x r
-ends_still {A} {E} {fails} p {s} {t} {u} {v} {w} {x} {r} sink visits ends =
-    subst (λ (y : Seen). EndsAnywhere fails (point_at p y v) u x r) sink
-    (subst (λ (y : Visits). EndsAnywhere fails (point_at p t y) u x r) visits ends)
+pub comes_still : {N : Type 0} (f : N → Tree) (a : Point) {r q : Run N} {s t : Seen} → t ≡ s → q ≡ r → RunReaches a (station_of f r s)
+    → RunReaches a (station_of f q t)
+comes_still {N} f a {r} {q} {s} {t} sink run comes =
+    subst (λ (x : Seen). RunReaches a (station_of f q x)) (sym sink)
+    (subst (λ (x : Run N). RunReaches a (station_of f x s)) (sym run) comes)
 
 -- a run begins without open trials
-pub comes_first : {N : Type 0} (f : N → Tree) (us : List (OpenTrial N)) (buffer : Seen) (a : Point) → us ≡ []
-    → RunReaches a (all_held f us) buffer a
-comes_first f us buffer a none =
-    subst (λ (xs : List (OpenTrial _)). RunReaches a (all_held f xs) buffer a) (sym none) (continues_same a)
+pub comes_first : {N : Type 0} (f : N → Tree) (r : Run N) (s : Seen) → r.trials.open.items ≡ [] → RunReaches (point_of f r s) (station_of f r s)
+comes_first f r s none = comes_alone (point_of f r s) (station_of f r s) (ap (all_held f) none) (continues_same (point_of f r s))
 
 -- a document that a table bounds
 pub begins_linear : {o : RenderOptions} {d : Tree} {p : Standing} → Begins o d p → IsLinear d → IsLinearStart p

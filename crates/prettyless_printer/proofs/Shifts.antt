@@ -22,11 +22,12 @@ use Rattle.prettyless_printer.specs.Points.{Point, Seen, Standing, point_at, sta
 use Rattle.prettyless_printer.specs.Visits.{CountsAtMost, RunCountsAtMost}
 use Rattle.prettyless_printer.specs.AtLeast.{CountsAtLeast, nothing_left, stack_tally}
 use Rattle.prettyless_printer.specs.Open.{Held, all_held, held}
-use Rattle.prettyless_printer.specs.Runs.{RunReaches, RunReachesChoice, InChoice, RunsToEndOrStops, StopsPastLimit}
+use Rattle.prettyless_printer.specs.Runs.{InChoice, ReachesWith, RunReaches, RunReachesChoice, RunsToEndOrStops, Station, StopsPastLimit}
 use Rattle.prettyless_printer.specs.Paths.{Chooses, Path, PathToChoice, run_of}
 use Rattle.prettyless_printer.specs.Renders.{Continues, Finishing, FlushesEnd, Rendered, RunsToEnd, RunsCommands, rest_of, to_end}
 use Rattle.prettyless_printer.proofs.Renders.{ending_again, ending_done, ending_stopped, finishing_begins, finishing_ends}
 use Rattle.prettyless_printer.proofs.Renders.{finishing_stopped, round_less, Ending}
+use Rattle.prettyless_printer.proofs.Chains.{open_some}
 use Rattle.prettyless_printer.proofs.PathSteps as steps
 use Rattle.prettyless_printer.proofs.PathSteps.{run_error}
 use Rattle.prettyless_printer.proofs.Visits.{at_most_same, at_most_then, rise_same, rise_then}
@@ -291,51 +292,53 @@ pub some_open : {N : Type 0} (f : N → Tree) (us : List (OpenTrial N)) → 0 < 
 some_open f us some = omega (arith, length-map us (held f), some)
 
 -- a run has come outside of trials
-pub comes_alone : (a b : Point) (us : List Held) (buffer : Seen) → us ≡ [] → Continues a b → RunReaches a us buffer b
-comes_alone a b us buffer none h = subst (λ (u : List Held). RunReaches a u buffer b) (sym none) h
+pub comes_alone : (a : Point) (z : Station) → z.held ≡ [] → Continues a z.point → RunReaches a z
+comes_alone a z none h = subst (λ (us : List Held). ReachesWith us a z) (sym none) h
 
-pub came_alone : (a b : Point) (us : List Held) (buffer : Seen) → us ≡ [] → RunReaches a us buffer b → Continues a b
-came_alone a b us buffer none h = subst (λ (u : List Held). RunReaches a u buffer b) none h
+pub came_alone : (a : Point) (z : Station) → z.held ≡ [] → RunReaches a z → Continues a z.point
+came_alone a z none h = subst (λ (us : List Held). ReachesWith us a z) none h
 
 -- it has reached a choice, whose trials are open
-pub comes_in_choice : {a c at b : Point} {us : List Held} {buffer : Seen} {i : ℕ} {x y : Tree} → Continues a c
-    → PathToChoice (run_of c) i x y at → InChoice i x y at us buffer b → RunReaches a us buffer b
-comes_in_choice {us = []} h waiting choice = absurd choice.trials
-comes_in_choice {c = c} {at = at} {us = u ∷ us} {i = i} {x = x} {y = y} h waiting choice =
-    record { c = c; continues = h; indent = i; first = x; second = y; at = at; waiting = waiting; choice = choice }
+reaches_with : (a : Point) (z : Station) (us : List Held) → 0 < length us → RunReachesChoice a z → ReachesWith us a z
+reaches_with a z [] some h = absurd (omega (arith, some))
+reaches_with a z (u ∷ us) some h = h
 
-pub came_in_choice : (a b : Point) (us : List Held) (buffer : Seen) → 0 < length us → RunReaches a us buffer b
-    → RunReachesChoice a us buffer b
-came_in_choice a b [] buffer some h = absurd (omega (arith, some))
-came_in_choice a b (u ∷ us) buffer some h = h
+pub comes_in_choice : {a c at : Point} (z : Station) {i : ℕ} {x y : Tree} → Continues a c → PathToChoice (run_of c) i x y at
+    → InChoice i x y at z → RunReaches a z
+comes_in_choice {a} {c} {at} z {i} {x} {y} h waiting choice =
+    reaches_with a z z.held (open_some _ _ _ z.held choice.trials)
+    (record { c = c; continues = h; indent = i; first = x; second = y; at = at; waiting = waiting; choice = choice })
+
+reached_with : (a : Point) (z : Station) (us : List Held) → 0 < length us → ReachesWith us a z → RunReachesChoice a z
+reached_with a z [] some h = absurd (omega (arith, some))
+reached_with a z (u ∷ us) some h = h
+
+pub came_in_choice : (a : Point) (z : Station) → 0 < length z.held → RunReaches a z → RunReachesChoice a z
+came_in_choice a z some h = reached_with a z z.held some h
 
 -- it came further before
-comes_then : (a b c : Point) (us : List Held) (buffer : Seen) → Continues a b → RunReaches b us buffer c → RunReaches a us buffer c
-comes_then a b c [] buffer h k = continues_then h k
-comes_then a b c (u ∷ us) buffer h k =
-    record {
-      c = k.c;
-      continues = continues_then h k.continues;
-      indent = k.indent;
-      first = k.first;
-      second = k.second;
-      at = k.at;
-      waiting =
-          k.waiting;
-      choice = k.choice;
-    }
+comes_then : (a b : Point) (z : Station) (us : List Held) → Continues a b → ReachesWith us b z → ReachesWith us a z
+comes_then a b z [] h k = continues_then h k
+comes_then a b z (u ∷ us) h k = record {
+  c = k.c;
+  continues = continues_then h k.continues;
+  indent = k.indent;
+  first = k.first;
+  second = k.second;
+  at = k.at;
+  waiting = k.waiting;
+  choice = k.choice;
+}
 
-pub stops_then : (limit : ℕ) (a b c : Point) (us : List Held) (buffer : Seen) → Continues a b → StopsPastLimit limit b us buffer c
-    → StopsPastLimit limit a us buffer c
-stops_then limit a b c us buffer h k = record { comes = comes_then a b c us buffer h k.comes; past = k.past }
+pub stops_then : (limit : ℕ) (a b : Point) (z : Station) → Continues a b → StopsPastLimit limit b z → StopsPastLimit limit a z
+stops_then limit a b z h k = record { comes = comes_then a b z z.held h k.comes; past = k.past }
 
 -- what a run leaves and a run of that, which may stop, are a run that may stop
-pub runs_then : {E : Type 0} (fails : E → Type 0) (limit : ℕ) (a b c : Point) (us : List Held) (buffer : Seen)
-    (r : Result RunResult (RenderError E)) → Continues a b → RunsToEndOrStops fails limit b us buffer c r
-    → RunsToEndOrStops fails limit a us buffer c r
-runs_then fails limit a b c us buffer (Ok run_result.Finished) h k = continues_to_end fails (Ok run_result.Finished) h k
-runs_then fails limit a b c us buffer (Ok run_result.Shift) h k = stops_then limit a b c us buffer h k
-runs_then fails limit a b c us buffer (Err e) h k = continues_to_end fails (Err e) h k
+pub runs_then : {E : Type 0} (fails : E → Type 0) (limit : ℕ) (a b : Point) (z : Station) (r : Result RunResult (RenderError E))
+    → Continues a b → RunsToEndOrStops fails limit b z r → RunsToEndOrStops fails limit a z r
+runs_then fails limit a b z (Ok run_result.Finished) h k = continues_to_end fails (Ok run_result.Finished) h k
+runs_then fails limit a b z (Ok run_result.Shift) h k = stops_then limit a b z h k
+runs_then fails limit a b z (Err e) h k = continues_to_end fails (Err e) h k
 
 -- a choice in which a run came is made
 pub choice_continues : {E : Type 0} {a c at b : Point} (i : ℕ) (x y : Tree) → Continues a c → PathToChoice (run_of c) i x y at

@@ -18,6 +18,7 @@ use Rattle.prettyless_printer.specs.Open.{BeginsTrial}
 use Rattle.prettyless_printer.specs.Visits.{Plain, suffix_depths}
 use Rattle.prettyless_printer.specs.Paths.{BeganPlain, Path}
 use Rattle.prettyless_printer.specs.Turns.{Advances, TurnHolds}
+use Rattle.prettyless_printer.specs.declared.answer.Choice.{Choice}
 use Rattle.prettyless_printer.specs.declared.answer.TurnResult.TheVariants as turn_result
 use Rattle.prettyless_printer.proofs.PathSteps.{at_run, path_to_choice, goes_on, stops}
 use Rattle.prettyless_printer.proofs.Progresses.{inside_past}
@@ -101,18 +102,19 @@ trial_turn_exceeds f {t} on l h past =
     }
 
 -- a turn after which two branches are to be chosen from
-pub trial_turn_choice : {N E : Type 0} (f : N → Tree) {t : Trial} {below : ℕ} {a b : Point} (i : ℕ) (x y : N) → TrialRunning t below a
-    → below < length a.printer.tasks → Advances {N = N} {E = E} f a b (Ok (turn_result.Choice i x y)) →
-    AtChoice t i (f x) (f y) b × (2 * (size (f x) + size (f y)) + work_at b < work_at a)
-trial_turn_choice f {t} {a} {b} i x y on l h =
+pub trial_turn_choice : {N E : Type 0} (f : N → Tree) {t : Trial} {below : ℕ} {a b : Point} (choice : Choice N) → TrialRunning t below a
+    → below < length a.printer.tasks → Advances {N = N} {E = E} f a b (Ok (turn_result.Choice choice)) →
+    AtChoice t choice.indent (f choice.first) (f choice.second) b
+    × (2 * (size (f choice.first) + size (f choice.second)) + work_at b < work_at a)
+trial_turn_choice f {t} {a} {b} choice on l h =
     let path = on.path in
     let less : length t.start.printer.tasks < length a.printer.tasks = omega (arith, l, on.height) in
     let k = path.bytes on.is_known in
-    let e = at_run (λ o. TurnHolds f o b.printer (known b.sink.bytes) (turn_result.Choice i x y)) path less on.is_known
+    let e = at_run (λ o. TurnHolds f o b.printer (known b.sink.bytes) (turn_result.Choice choice)) path less on.is_known
     (h.bytes k.0).1.0 in (
       record {
         is_known = (h.bytes k.0).0;
-        waiting = path_to_choice f i x y path less h (omega (arith, ap length e.stack_is, length-append e.above t.start.printer.tasks));
+        waiting = path_to_choice f choice path less h (omega (arith, ap length e.stack_is, length-append e.above t.start.printer.tasks));
         within = h.work_falls.1 ∙ on.within;
       },
       h.work_falls.0,

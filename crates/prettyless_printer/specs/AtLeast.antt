@@ -56,8 +56,8 @@ abbrev pub TurnCountsAtLeast : {N E : Type 0} → (N → Tree) → Standing → 
 TurnCountsAtLeast f p q v w (Ok Complete) = (n : ℕ) → n < length p.tasks → CountsAtLeast (stack_tally p n) (stack_tally q n) v w
 TurnCountsAtLeast f p q v w (Ok Shift) = (n : ℕ) → n < length p.tasks → CountsAtLeast (stack_tally p n) (stack_tally q n) v w
 TurnCountsAtLeast f p q v w (Ok Failed) = Unit {0}
-TurnCountsAtLeast f p q v w (Ok (Choice i x y)) =
-    (n : ℕ) → n < length p.tasks → CountsAtLeast (stack_tally p n) (choice_tally q n i (f x) (f y)) v w
+TurnCountsAtLeast f p q v w (Ok (Choice c)) =
+    (n : ℕ) → n < length p.tasks → CountsAtLeast (stack_tally p n) (choice_tally q n c.indent (f c.first) (f c.second)) v w
 TurnCountsAtLeast f p q v w (Err e) = Unit {0}
 
 -- a trial that is kept has counted its branch

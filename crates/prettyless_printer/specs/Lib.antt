@@ -12,3 +12,4 @@ pub mod Turns
 pub mod Renders
 pub mod Paths
 pub mod Runs
+pub mod Storing

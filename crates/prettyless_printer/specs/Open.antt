@@ -8,6 +8,7 @@ use Rattle.prettyless_model.specs.declared.mode.Mode.TheVariants.{Break}
 use Rattle.prettyless_probe.specs.Stack.{make_task}
 use Rattle.prettyless_printer.specs.declared.trial.Mark.{Mark}
 use Rattle.prettyless_printer.specs.declared.trial.OpenTrial.{OpenTrial}
+use Rattle.prettyless_printer.specs.declared.run.Run.{Run}
 use Rattle.prettyless_printer.specs.declared.answer.TrialResult.{TrialResult}
 use Rattle.prettyless_printer.specs.declared.answer.TrialResult.TheVariants as trial_result
 use Rattle.prettyless_printer.specs.Points.{Standing, state_at, QueueGrows, Seen, Point, point_at}
@@ -27,6 +28,10 @@ held f u = record { mark = u.mark; indent = u.indent; second = f u.second }
 -- open trials of nodes
 abbrev pub all_held : {N : Type 0} → (N → Tree) → List (OpenTrial N) → List Held
 all_held f us = map (held f) us
+
+-- the open trials of a run of nodes
+abbrev pub held_of : {N : Type 0} → (N → Tree) → Run N → List Held
+held_of f r = all_held f r.trials.open.items
 
 -- their second branches
 abbrev pub seconds : List Held → List Tree

@@ -12,6 +12,7 @@ use Rattle.prettyless_step.specs.Steps.{work}
 use Rattle.prettyless_step.specs.Printing.{tasks_of}
 use Rattle.prettyless_step.specs.declared.printer.Printer.{Printer}
 use Rattle.prettyless_printer.specs.declared.buffer.Buffer.{Buffer}
+use Rattle.prettyless_printer.specs.declared.run.Run.{Run}
 
 -- Where a printer stands, whatever the type of its nodes.
 pub record Standing : Type 0 where
@@ -78,6 +79,14 @@ point_at p s v = record { printer = p; sink = s; visits = v }
 -- a point of a printer of nodes
 abbrev pub point : {N : Type 0} → (N → Tree) → Printer N → Seen → Visits → Point
 point f p s v = point_at (standing f p) s v
+
+-- where a run of nodes is, with its sink
+abbrev pub point_of : {N : Type 0} → (N → Tree) → Run N → Seen → Point
+point_of f r s = point f r.printer s r.visits
+
+-- where its trials are, whose sink is its buffer
+abbrev pub trial_point : {N : Type 0} → (N → Tree) → Run N → Point
+trial_point f r = point_of f r (buffer_seen r.buffer)
 
 -- the work that a point has left
 abbrev pub work_at : Point → ℕ

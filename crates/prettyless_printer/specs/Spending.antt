@@ -1,7 +1,8 @@
 -- How many nodes probes visit while nodes leave. A probe is started only where their count is within a limit, and visits no more nodes
 -- than are left; where all is summed up, it visits two.
-use Rattle.std.specs.Prelude.{◌≡◌, ℕ, ◌+◌, ◌*◌, ◌^◌, ◌≤◌, ◌<◌, Bool, IsTrue, List, [], ◌∷◌, Option, Some, None, Result, Ok, Err}
+use Rattle.std.specs.Prelude.{◌≡◌, ℕ, ◌+◌, ◌*◌, ◌-◌, ◌^◌, ◌≤◌, ◌<◌, Bool, true, IsTrue, List, [], ◌∷◌, Result, Ok, Err}
 use Rattle.std.specs.List.{sum_by}
+use Rattle.prettyless_sink.specs.declared.error.RenderError.{RenderError}
 use Rattle.prettyless_sink.specs.declared.visits.Visits.{Visits}
 use Rattle.prettyless_model.specs.Tree.{Tree, size}
 use Rattle.prettyless_model.specs.Content.{suffix_depth}
@@ -9,9 +10,12 @@ use Rattle.prettyless_model.specs.declared.mode.Mode.TheVariants.{Break}
 use Rattle.prettyless_probe.specs.Stack.{Task, make_task, nodes}
 use Rattle.prettyless_probe.specs.Probing.{RisesBy}
 use Rattle.prettyless_probe.specs.Sums.{HaveSummaries, TreesHaveSummaries}
-use Rattle.prettyless_printer.specs.Points.{Standing}
+use Rattle.prettyless_printer.specs.Points.{Point, Seen, Standing, standing}
 use Rattle.prettyless_printer.specs.Visits.{Plain}
 use Rattle.prettyless_printer.specs.Trials.{Trial}
+use Rattle.prettyless_printer.specs.Open.{held_of, seconds}
+use Rattle.prettyless_printer.specs.Renders.{EndsAnywhere}
+use Rattle.prettyless_printer.specs.declared.run.Run.{Run}
 use Rattle.prettyless_printer.specs.declared.answer.TrialState.{TrialState}
 use Rattle.prettyless_printer.specs.declared.answer.TrialState.TheVariants as trial_state
 use Rattle.prettyless_printer.specs.declared.answer.TurnResult.{TurnResult}
@@ -27,6 +31,14 @@ pub record Left : Type 0 where
 -- what is left where a printer stands
 abbrev pub left : Standing → List Tree → Visits → Left
 left p ds v = record { tasks = p.tasks; seconds = ds; queue = p.queue; visits = v }
+
+-- what a run of nodes has left
+abbrev pub left_of : {N : Type 0} → (N → Tree) → Run N → Left
+left_of f r = left (standing f r.printer) (seconds (held_of f r)) r.visits
+
+-- the same without its open trials
+abbrev pub left_alone : {N : Type 0} → (N → Tree) → Run N → Left
+left_alone f r = left (standing f r.printer) [] r.visits
 
 -- nothing is left
 abbrev pub none_left : Visits → Left
@@ -85,7 +97,7 @@ abbrev pub after_turn : {N E : Type 0} → (N → Tree) → Standing → Visits 
 after_turn f q w (Ok Complete) = left q [] w
 after_turn f q w (Ok Shift) = left q [] w
 after_turn f q w (Ok Failed) = left q [] w
-after_turn f q w (Ok (Choice i x y)) = left_choice i (f x) (f y) q w
+after_turn f q w (Ok (Choice c)) = left_choice c.indent (f c.first) (f c.second) q w
 after_turn f q w (Err e) = none_left w
 
 -- the same of a turn of a trial, or of its end
@@ -94,7 +106,7 @@ after_trial_turn f q w (Ok trial_state.Running) = left q [] w
 after_trial_turn f q w (Ok trial_state.Complete) = left q [] w
 after_trial_turn f q w (Ok trial_state.Rejected) = left q [] w
 after_trial_turn f q w (Ok trial_state.Shift) = left q [] w
-after_trial_turn f q w (Ok (trial_state.Choice i x y)) = left_choice i (f x) (f y) q w
+after_trial_turn f q w (Ok (trial_state.Choice c)) = left_choice c.indent (f c.first) (f c.second) q w
 after_trial_turn f q w (Err e) = none_left w
 
 -- No line suffix is among what a choice between two branches leads to, and none is pending.
@@ -107,8 +119,8 @@ pub record IsPlainChoice (p : Standing) (x y : Tree) : Type 0 where
 abbrev pub IsPlainTrial : Trial → Tree → Type 0
 IsPlainTrial s y = IsPlainChoice s.start.printer s.branch y
 
--- a shift did not end the run
-abbrev pub IsUnended : {R E : Type 0} → Result (Option R) E → Type 0
-IsUnended (Ok (Some r)) = ⊥
-IsUnended (Ok None) = Unit {0}
-IsUnended (Err e) = Unit {0}
+-- A run that began at a point and had this left has gone on over a table to its end.
+pub record EndsOverTable {A E : Type 0} (fails : E → Type 0) (a : Point) (l : Left) (s : Seen) (v : Visits) (r : Result A (RenderError E))
+    : Type 0 where
+  pub ends : EndsAnywhere fails a s v r
+  pub spends : Plain a.printer → Spends (rule_of true (2 ^ 64 - 1)) l (none_left v)

@@ -142,7 +142,8 @@ abbrev pub TrialTurn : {N E : Type 0} → (N → Tree) → ℕ → Point → Poi
 TrialTurn f below a b t (Ok Running) = TrialRunning t below b × (work_at b < work_at a)
 TrialTurn f below a b t (Ok Complete) = TrialComplete t b × (work_at b ≤ work_at a)
 TrialTurn f below a b t (Ok Rejected) = TrialRejected t b
-TrialTurn f below a b t (Ok (Choice i x y)) = AtChoice t i (f x) (f y) b × (2 * (size (f x) + size (f y)) + work_at b < work_at a)
+TrialTurn f below a b t (Ok (Choice c)) =
+    AtChoice t c.indent (f c.first) (f c.second) b × (2 * (size (f c.first) + size (f c.second)) + work_at b < work_at a)
 TrialTurn f below a b t (Ok Shift) = TrialRunning t below b
 TrialTurn f below a b t (Err e) = TrialError t b
 
@@ -155,5 +156,5 @@ abbrev pub TrialStopsPast : {N : Type 0} → ℕ → ℕ → TrialState N → Ty
 TrialStopsPast limit probes Running = Unit {0}
 TrialStopsPast limit probes Complete = Unit {0}
 TrialStopsPast limit probes Rejected = Unit {0}
-TrialStopsPast limit probes (Choice i x y) = Unit {0}
+TrialStopsPast limit probes (Choice c) = Unit {0}
 TrialStopsPast limit probes Shift = IsPastLimit limit probes

@@ -32,14 +32,16 @@ abbrev pub TurnHolds : {N : Type 0} → (N → Tree) → RenderOptions → Stand
 TurnHolds f o q out Complete whole limit below old = Inside o whole limit below old q.tasks (state_at q) out
 TurnHolds f o q out Failed whole limit below old =
     (bytes : List ℕ) × (above : List Task) × (out ≡ old ++ bytes) × (whole ≡ layout.Failed bytes) × (q.tasks ≡ above ++ below)
-TurnHolds f o q out (Choice i x y) whole limit below old = ChoiceNext o whole limit below old i (f x) (f y) q.tasks (state_at q) out
+TurnHolds f o q out (Choice c) whole limit below old =
+    ChoiceNext o whole limit below old c.indent (f c.first) (f c.second) q.tasks (state_at q) out
 TurnHolds f o q out Shift whole limit below old = Inside o whole limit below old q.tasks (state_at q) out
 
 -- work is taken away, or none is added where a turn stopped
 abbrev pub WorkFalls : {N : Type 0} → (N → Tree) → Point → Point → TurnResult N → Type 0
 WorkFalls f a b Complete = work_at b < work_at a
 WorkFalls f a b Failed = Unit {0}
-WorkFalls f a b (Choice i x y) = (2 * (size (f x) + size (f y)) + work_at b < work_at a) × (b.printer.within ≡ a.printer.within)
+WorkFalls f a b (Choice c) =
+    (2 * (size (f c.first) + size (f c.second)) + work_at b < work_at a) × (b.printer.within ≡ a.printer.within)
 WorkFalls f a b Shift = (work_at b ≤ work_at a) × (b.printer.within ≡ a.printer.within)
 
 -- how many nodes the next task has
@@ -60,7 +62,7 @@ Advanced f p q out new n m (Err (Memory e)) = (new ≡ out) × (m ≡ n)
 abbrev pub VisitsNext : {N E : Type 0} → ℕ → ℕ → Result (TurnResult N) (RenderError E) → Type 0
 VisitsNext n m (Ok Complete) = rise n ≤ m
 VisitsNext n m (Ok Failed) = rise n ≤ m
-VisitsNext n m (Ok (Choice i x y)) = rise n ≤ m
+VisitsNext n m (Ok (Choice c)) = rise n ≤ m
 VisitsNext n m (Ok Shift) = n ≤ m
 VisitsNext n m (Err (Document e)) = rise n ≤ m
 VisitsNext n m (Err (Sink e)) = rise n ≤ m
@@ -74,7 +76,7 @@ IsPastLimit limit probes = (limit < probes) × (probes < 2 ^ 64)
 abbrev pub StopsPast : {N : Type 0} → ℕ → ℕ → TurnResult N → Type 0
 StopsPast limit probes Complete = Unit {0}
 StopsPast limit probes Failed = Unit {0}
-StopsPast limit probes (Choice i x y) = Unit {0}
+StopsPast limit probes (Choice c) = Unit {0}
 StopsPast limit probes Shift = IsPastLimit limit probes
 
 -- A turn, from one point to another.

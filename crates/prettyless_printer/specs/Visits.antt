@@ -45,9 +45,9 @@ abbrev pub TurnCountsAtMost : {N E : Type 0} → (N → Tree) → Standing → S
 TurnCountsAtMost f p q v w (Ok Complete) = Plain q × CountsAtMost p.tasks q.tasks v w
 TurnCountsAtMost f p q v w (Ok Shift) = Plain q × CountsAtMost p.tasks q.tasks v w
 TurnCountsAtMost f p q v w (Ok Failed) = CountsAtMost p.tasks q.tasks v w
-TurnCountsAtMost f p q v w (Ok (Choice i x y)) =
-    Plain q × (suffix_depth (f x) ≡ 0) × (suffix_depth (f y) ≡ 0)
-    × CountsAtMost p.tasks (make_task i Break (f x) ∷ make_task i Break (f y) ∷ q.tasks) v w
+TurnCountsAtMost f p q v w (Ok (Choice c)) =
+    Plain q × (suffix_depth (f c.first) ≡ 0) × (suffix_depth (f c.second) ≡ 0)
+    × CountsAtMost p.tasks (make_task c.indent Break (f c.first) ∷ make_task c.indent Break (f c.second) ∷ q.tasks) v w
 TurnCountsAtMost f p q v w (Err e) = CountsAtMost p.tasks [] v w
 
 -- the visits of a run from tasks to what the printer has left

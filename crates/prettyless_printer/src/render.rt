@@ -1,11 +1,15 @@
 //! Rendering a document to a sink. This file knows nodes by `Walk` alone, and no turns and no trials.
-ghost use Rattle.std.specs.Prelude.{IfOk};
+ghost use Rattle.std.specs.Prelude.{◌≡◌, ◌≤◌, IfOk, []};
+ghost use Rattle.prettyless_model.specs.Tree.{size};
 ghost use Rattle.prettyless_probe.specs.Sums.{IsSummed};
 ghost use Rattle.prettyless_printer.specs.Points.{seen, standing};
 ghost use Rattle.prettyless_printer.specs.Renders.{Begins, Renders};
-ghost use Rattle.prettyless_printer.specs.Linear.{BoundedByTable};
+ghost use Rattle.prettyless_printer.specs.Linear.{BoundedByTable, IsLinear, IsLinearBound};
 
-use crate::shift::{run_over_table, run_with_shift};
+use crate::buffer::Buffer;
+use crate::run::Run;
+use crate::shift_policy::ROOM_AT_FIRST;
+use crate::trial::Trials;
 use prettyless_model::column::Column;
 use prettyless_model::mode::Mode;
 use prettyless_model::options::RenderOptions;
@@ -18,26 +22,64 @@ use prettyless_step::printer::Printer;
 use prettyless_step::queue::Queue;
 use std::alloc::{AllocError, Global};
 
-// A printer before a document.
-fn printer_before<N: Walk>(
+// A run before a document, with the visits before it.
+fn run_before<N: Walk>(
     alloc: Global,
     node: N,
     options: RenderOptions,
-) -> Result<Printer<N>, AllocError>
-    ensures begins { IfOk result (λ p. Begins options (N.tree node) (standing N.tree p)) }
-    ensures summed { IfOk result (λ p. IsSummed N.HAS_SUMMARIES N.tree p.commands) }
+    visits: Visits,
+) -> Result<Run<N>, AllocError>
+    ensures begins { IfOk result (λ r. Begins options (N.tree node) (standing N.tree r.printer)) }
+    ensures none { IfOk result (λ r. r.trials.open.items ≡ []) }
+    ensures visits { IfOk result (λ r. r.visits ≡ visits) }
+    ensures summed { IfOk result (λ r. IsSummed N.HAS_SUMMARIES N.tree r.printer.commands) }
 {
-    let mut printer = Printer {
-        options,
-        column: Column::start(),
-        within: true,
-        commands: Stack::new(alloc),
-        scratch: Stack::new(alloc),
-        flat: Vec::new(alloc),
-        queue: Queue::new(alloc),
+    let mut run = Run {
+        alloc,
+        printer: Printer {
+            options,
+            column: Column::start(),
+            within: true,
+            commands: Stack::new(alloc),
+            scratch: Stack::new(alloc),
+            flat: Vec::new(alloc),
+            queue: Queue::new(alloc),
+        },
+        trials: Trials::new(alloc),
+        buffer: Buffer::new(alloc),
+        visits,
     };
-    printer.commands.push(0, Mode::Break, node)?;
-    Ok(printer)
+    run.printer.commands.push(0, Mode::Break, node)?;
+    Ok(run)
+}
+
+// Renders the document of a node to a sink, with so much room for a table of all its nodes from the first one on.
+fn render_with_room<N: Walk, W: Render>(
+    alloc: Global,
+    node: N,
+    options: RenderOptions,
+    out: &mut W,
+    visits: &mut Visits,
+    room: u64,
+) -> Result<(), RenderError<W::Error>>
+    ensures renders { Renders (W.document_errors out.new) options (N.tree node)
+        (seen W.bytes W.failures W.lender out.old) (seen W.bytes W.failures W.lender out.new)
+        visits.old visits.new result }
+    ensures twice { IsLinear (N.tree node) → size (N.tree node) ≤ room → visits.new.refused ≡ 0
+        → IsLinearBound 2 0 (size (N.tree node)) visits.old visits.new }
+{
+    match run_before(alloc, node, options, *visits) {
+        Ok(mut run) => {
+            let mut refused = visits.refused;
+            let result = run.run_with_shift(out, room, &mut refused);
+            *visits = Visits {
+                refused,
+                ..run.visits
+            };
+            result
+        }
+        Err(e) => Err(RenderError::Memory(e)),
+    }
 }
 
 /// Renders the document of a node to a sink: what is written is its layout.
@@ -63,15 +105,7 @@ pub fn render<N: Walk, W: Render>(
         (seen W.bytes W.failures W.lender out.old) (seen W.bytes W.failures W.lender out.new)
         visits.old visits.new result }
 {
-    match printer_before(alloc, node, options) {
-        Ok(mut printer) => {
-            let mut refused = visits.refused;
-            let result = run_with_shift(alloc, &mut printer, out, visits, &mut refused);
-            visits.refused = refused;
-            result
-        }
-        Err(e) => Err(RenderError::Memory(e)),
-    }
+    render_with_room(alloc, node, options, out, visits, 0)
 }
 
 /// Renders the document of a node as `render` does, over a table of all of its nodes from the first one on: each probe takes two
@@ -90,13 +124,5 @@ pub fn render_over_table<N: Walk, W: Render>(
         visits.old visits.new result }
     ensures twice { BoundedByTable (N.tree node) visits.old visits.new }
 {
-    match printer_before(alloc, node, options) {
-        Ok(mut printer) => {
-            let mut refused = visits.refused;
-            let result = run_over_table(alloc, &mut printer, out, visits, &mut refused);
-            visits.refused = refused;
-            result
-        }
-        Err(e) => Err(RenderError::Memory(e)),
-    }
+    render_with_room(alloc, node, options, out, visits, ROOM_AT_FIRST)
 }

@@ -1,19 +1,18 @@
 //! The run: commands are laid into a sink until none is left, and then what is pending at the end.
 //! It knows turns and trials, and no table.
-ghost use Rattle.std.specs.Prelude.{ℕ, ◌≡◌, ◌<◌, ◌^◌, ◌-◌, [], OnOk};
+ghost use Rattle.std.specs.Prelude.{◌≡◌, ◌<◌, ◌^◌, ◌-◌, [], ℕ, OnOk};
 ghost use Rattle.prettyless_model.specs.Tree.{Tree};
 ghost use Rattle.prettyless_step.specs.Printing.{tasks_of};
 ghost use Rattle.prettyless_probe.specs.Sums.{IsSummed};
-ghost use Rattle.prettyless_printer.specs.Points.{Point, buffer_seen, point, seen, standing};
+ghost use Rattle.prettyless_printer.specs.Points.{Point, point_of, seen, standing};
 ghost use Rattle.prettyless_printer.specs.Renders.{FlushesEnd, RunsToEnd};
-ghost use Rattle.prettyless_printer.specs.Open.{all_held, seconds};
 ghost use Rattle.prettyless_printer.specs.Visits.{Plain};
-ghost use Rattle.prettyless_printer.specs.Spending.{IsPlainChoice, Spends, SpendsAs, left, left_choice, none_left, rule_of};
-ghost use Rattle.prettyless_printer.specs.Runs.{RunReaches, InChoice, RunsToEndOrStops, ChoosesOrStops, RunsCommandsOrStops};
+ghost use Rattle.prettyless_printer.specs.Spending.{IsPlainChoice, Spends, SpendsAs, left_alone, left_choice, left_of, none_left, rule_of};
+ghost use Rattle.prettyless_printer.specs.Runs.{RunReaches, InChoice, RunsToEndOrStops, ChoosesOrStops, RunsCommandsOrStops, station_of};
 
-use crate::answer::{RunResult, TrialResult, TurnResult};
+use crate::answer::{Choice, RunResult, TrialResult, TurnResult};
 use crate::buffer::Buffer;
-use crate::trial::{Trials, open_trial, resume_trial};
+use crate::trial::Trials;
 use crate::turn::turn;
 use prettyless_model::mode::Mode;
 use prettyless_probe::walk::Walk;
@@ -23,110 +22,20 @@ use prettyless_sink::render::Render;
 use prettyless_sink::visits::Visits;
 use prettyless_step::pending::{is_pending, take_pending};
 use prettyless_step::printer::Printer;
+use std::alloc::Global;
 
-// Resumes a choice whose trials are open. A branch that is kept goes to the sink in one piece.
-fn resume_choice<N: Walk, W: Render>(
-    printer: &mut Printer<N>,
-    trials: &mut Trials<N>,
-    buffer: &mut Buffer,
-    out: &mut W,
-    limit: u64,
-    visits: &mut Visits,
-) -> Result<RunResult, RenderError<W::Error>>
-    requires open { (i : ℕ) × (x : Tree) × (y : Tree) × (a : Point) × InChoice i x y a (all_held N.tree trials.old.open.items)
-        (buffer_seen buffer.old) (point N.tree printer.old (seen W.bytes W.failures W.lender out.old) visits.old) }
-    requires summed { IsSummed N.HAS_SUMMARIES N.tree printer.old.commands }
-    ensures settles { (i : ℕ) (x y : Tree) (a : Point) → InChoice i x y a (all_held N.tree trials.old.open.items)
-        (buffer_seen buffer.old) (point N.tree printer.old (seen W.bytes W.failures W.lender out.old) visits.old) →
-        ChoosesOrStops limit i x y a (all_held N.tree trials.new.open.items) (buffer_seen buffer.new)
-        (point N.tree printer.new (seen W.bytes W.failures W.lender out.new) visits.new) result }
-    ensures spends { (i : ℕ) (x y : Tree) (a : Point) → InChoice i x y a (all_held N.tree trials.old.open.items)
-        (buffer_seen buffer.old) (point N.tree printer.old (seen W.bytes W.failures W.lender out.old) visits.old) →
-        IsPlainChoice a.printer x y → SpendsAs (rule_of N.HAS_SUMMARIES limit)
-        (left (standing N.tree printer.old) (seconds (all_held N.tree trials.old.open.items)) visits.old)
-        (left (standing N.tree printer.new) (seconds (all_held N.tree trials.new.open.items)) visits.new) result }
-    ensures summed { OnOk result (IsSummed N.HAS_SUMMARIES N.tree printer.new.commands) }
-{
-    match resume_trial(printer, trials, buffer, limit, visits) {
-        Err(e) => Err(RenderError::Memory(e)),
-        Ok(TrialResult::Shift) => Ok(RunResult::Shift),
-        Ok(TrialResult::Rejected) => Ok(RunResult::Finished),
-        Ok(TrialResult::Kept) => match write_gap_and_text(out, 0, buffer.text.as_str()) {
-            Ok(()) => Ok(RunResult::Finished),
-            Err(e) => Err(RenderError::Sink(e)),
-        },
-    }
-}
-
-// Lays the branch of a union that its trial chooses, or stops in the trial.
-fn choose<N: Walk, W: Render>(
-    printer: &mut Printer<N>,
-    trials: &mut Trials<N>,
-    buffer: &mut Buffer,
-    out: &mut W,
-    indent: usize,
-    first: N,
-    second: N,
-    limit: u64,
-    visits: &mut Visits,
-) -> Result<RunResult, RenderError<W::Error>>
-    requires none { trials.old.open.items ≡ [] }
-    requires summed { IsSummed N.HAS_SUMMARIES N.tree printer.old.commands }
-    ensures settles { ChoosesOrStops limit indent (N.tree first) (N.tree second)
-        (point N.tree printer.old (seen W.bytes W.failures W.lender out.old) visits.old)
-        (all_held N.tree trials.new.open.items) (buffer_seen buffer.new)
-        (point N.tree printer.new (seen W.bytes W.failures W.lender out.new) visits.new) result }
-    ensures spends { IsPlainChoice (standing N.tree printer.old) (N.tree first) (N.tree second) → SpendsAs
-        (rule_of N.HAS_SUMMARIES limit)
-        (left_choice indent (N.tree first) (N.tree second) (standing N.tree printer.old) visits.old)
-        (left (standing N.tree printer.new) (seconds (all_held N.tree trials.new.open.items)) visits.new) result }
-    ensures summed { OnOk result (IsSummed N.HAS_SUMMARIES N.tree printer.new.commands) }
-{
-    buffer.text.clear();
-    match open_trial(printer, trials, buffer, indent, first, second) {
-        Err(e) => Err(RenderError::Memory(e)),
-        Ok(()) => resume_choice(printer, trials, buffer, out, limit, visits),
-    }
-}
-
-// Runs commands until none is left, or before a node probes are past the limit. No trial is open between two of them: line suffixes
-// that were laid are forgotten there.
-fn run_commands<N: Walk, W: Render>(
-    printer: &mut Printer<N>,
-    trials: &mut Trials<N>,
-    buffer: &mut Buffer,
-    out: &mut W,
-    limit: u64,
-    visits: &mut Visits,
-) -> Result<RunResult, RenderError<W::Error>>
-    requires none { trials.old.open.items ≡ [] }
-    requires summed { IsSummed N.HAS_SUMMARIES N.tree printer.old.commands }
-    ensures works { RunsCommandsOrStops (W.document_errors out.new) limit
-        (point N.tree printer.old (seen W.bytes W.failures W.lender out.old) visits.old)
-        (all_held N.tree trials.new.open.items) (buffer_seen buffer.new)
-        (point N.tree printer.new (seen W.bytes W.failures W.lender out.new) visits.new) result }
-    ensures spends { Plain (standing N.tree printer.old) → SpendsAs
-        (rule_of N.HAS_SUMMARIES limit)
-        (left (standing N.tree printer.old) [] visits.old)
-        (left (standing N.tree printer.new) (seconds (all_held N.tree trials.new.open.items)) visits.new) result }
-    ensures summed { OnOk result (IsSummed N.HAS_SUMMARIES N.tree printer.new.commands) }
-{
-    'work: while printer.commands.len() > 0 {
-        match turn(printer, out, limit, visits)? {
-            TurnResult::Failed => return Err(RenderError::Document(out.fail_doc())),
-            TurnResult::Complete => printer.queue.forget_laid(),
-            TurnResult::Shift => return Ok(RunResult::Shift),
-            TurnResult::Choice(indent, first, second) => {
-                match choose(
-                    printer, trials, buffer, out, indent, first, second, limit, visits,
-                )? {
-                    RunResult::Finished => printer.queue.forget_laid(),
-                    RunResult::Shift => return Ok(RunResult::Shift),
-                }
-            }
-        }
-    }
-    Ok(RunResult::Finished)
+/// A run: all that it has left, and what it has visited. Its sink is the caller's.
+#[derive(Drop)]
+pub struct Run<N> {
+    /// Where tables take their memory.
+    pub alloc: Global,
+    pub printer: Printer<N>,
+    /// The trials that are open.
+    pub trials: Trials<N>,
+    /// What they wrote.
+    pub buffer: Buffer,
+    /// The visits so far, with those before the run.
+    pub visits: Visits,
 }
 
 // At the end the pending line suffixes become the commands, and the line's gap is written, as before content.
@@ -149,96 +58,158 @@ fn flush_end<N: Walk, W: Render>(
     }
 }
 
-// Lays the commands and then, round by round, the line suffixes that are pending at the end, as long as probes are not past
-// the limit.
-fn run_to_end<N: Walk, W: Render>(
-    printer: &mut Printer<N>,
-    trials: &mut Trials<N>,
-    buffer: &mut Buffer,
-    out: &mut W,
-    limit: u64,
-    visits: &mut Visits,
-) -> Result<RunResult, RenderError<W::Error>>
-    requires none { trials.old.open.items ≡ [] }
-    requires summed { IsSummed N.HAS_SUMMARIES N.tree printer.old.commands }
-    ensures runs { RunsToEndOrStops (W.document_errors out.new) limit
-        (point N.tree printer.old (seen W.bytes W.failures W.lender out.old) visits.old)
-        (all_held N.tree trials.new.open.items) (buffer_seen buffer.new)
-        (point N.tree printer.new (seen W.bytes W.failures W.lender out.new) visits.new) result }
-    ensures spends { Plain (standing N.tree printer.old) → SpendsAs
-        (rule_of N.HAS_SUMMARIES limit)
-        (left (standing N.tree printer.old) [] visits.old)
-        (left (standing N.tree printer.new) (seconds (all_held N.tree trials.new.open.items)) visits.new) result }
-    ensures summed { OnOk result (IsSummed N.HAS_SUMMARIES N.tree printer.new.commands) }
-{
-    'rounds: loop {
-        match run_commands(printer, trials, buffer, out, limit, visits)? {
-            RunResult::Shift => return Ok(RunResult::Shift),
-            RunResult::Finished => {
-                if !is_pending(printer) {
-                    return Ok(RunResult::Finished);
+impl<N: Walk> Run<N> {
+    // Resumes a choice whose trials are open. A branch that is kept goes to the sink in one piece.
+    fn resume_choice<W: Render>(
+        &mut self,
+        out: &mut W,
+        limit: u64,
+    ) -> Result<RunResult, RenderError<W::Error>>
+        requires open { (i : ℕ) × (x : Tree) × (y : Tree) × (a : Point)
+            × InChoice i x y a (station_of N.tree self.old (seen W.bytes W.failures W.lender out.old)) }
+        requires summed { IsSummed N.HAS_SUMMARIES N.tree self.old.printer.commands }
+        ensures settles { (i : ℕ) (x y : Tree) (a : Point)
+            → InChoice i x y a (station_of N.tree self.old (seen W.bytes W.failures W.lender out.old))
+            → ChoosesOrStops limit i x y a (station_of N.tree self.new (seen W.bytes W.failures W.lender out.new)) result }
+        ensures spends { (i : ℕ) (x y : Tree) (a : Point)
+            → InChoice i x y a (station_of N.tree self.old (seen W.bytes W.failures W.lender out.old)) → IsPlainChoice a.printer x y
+            → SpendsAs (rule_of N.HAS_SUMMARIES limit) (left_of N.tree self.old) (left_of N.tree self.new) result }
+        ensures summed { OnOk result (IsSummed N.HAS_SUMMARIES N.tree self.new.printer.commands) }
+    {
+        match self.resume_trial(limit) {
+            Err(e) => Err(RenderError::Memory(e)),
+            Ok(TrialResult::Shift) => Ok(RunResult::Shift),
+            Ok(TrialResult::Rejected) => Ok(RunResult::Finished),
+            Ok(TrialResult::Kept) => match write_gap_and_text(out, 0, self.buffer.text.as_str()) {
+                Ok(()) => Ok(RunResult::Finished),
+                Err(e) => Err(RenderError::Sink(e)),
+            },
+        }
+    }
+
+    // Lays the branch of a union that its trial chooses, or stops in the trial.
+    fn choose<W: Render>(
+        &mut self,
+        out: &mut W,
+        choice: Choice<N>,
+        limit: u64,
+    ) -> Result<RunResult, RenderError<W::Error>>
+        requires none { self.old.trials.open.items ≡ [] }
+        requires summed { IsSummed N.HAS_SUMMARIES N.tree self.old.printer.commands }
+        ensures settles { ChoosesOrStops limit choice.indent (N.tree choice.first) (N.tree choice.second)
+            (point_of N.tree self.old (seen W.bytes W.failures W.lender out.old))
+            (station_of N.tree self.new (seen W.bytes W.failures W.lender out.new)) result }
+        ensures spends { IsPlainChoice (standing N.tree self.old.printer) (N.tree choice.first) (N.tree choice.second)
+            → SpendsAs (rule_of N.HAS_SUMMARIES limit)
+            (left_choice choice.indent (N.tree choice.first) (N.tree choice.second) (standing N.tree self.old.printer) self.old.visits)
+            (left_of N.tree self.new) result }
+        ensures summed { OnOk result (IsSummed N.HAS_SUMMARIES N.tree self.new.printer.commands) }
+    {
+        self.buffer.text.clear();
+        match self.open_trial(choice) {
+            Err(e) => Err(RenderError::Memory(e)),
+            Ok(()) => self.resume_choice(out, limit),
+        }
+    }
+
+    // Runs commands until none is left, or before a node probes are past the limit. No trial is open between two of them: line
+    // suffixes that were laid are forgotten there.
+    fn run_commands<W: Render>(
+        &mut self,
+        out: &mut W,
+        limit: u64,
+    ) -> Result<RunResult, RenderError<W::Error>>
+        requires none { self.old.trials.open.items ≡ [] }
+        requires summed { IsSummed N.HAS_SUMMARIES N.tree self.old.printer.commands }
+        ensures works { RunsCommandsOrStops (W.document_errors out.new) limit
+            (point_of N.tree self.old (seen W.bytes W.failures W.lender out.old))
+            (station_of N.tree self.new (seen W.bytes W.failures W.lender out.new)) result }
+        ensures spends { Plain (standing N.tree self.old.printer)
+            → SpendsAs (rule_of N.HAS_SUMMARIES limit) (left_alone N.tree self.old) (left_of N.tree self.new) result }
+        ensures summed { OnOk result (IsSummed N.HAS_SUMMARIES N.tree self.new.printer.commands) }
+    {
+        'work: while self.printer.commands.len() > 0 {
+            match turn(&mut self.printer, out, limit, &mut self.visits)? {
+                TurnResult::Failed => return Err(RenderError::Document(out.fail_doc())),
+                TurnResult::Complete => self.printer.queue.forget_laid(),
+                TurnResult::Shift => return Ok(RunResult::Shift),
+                TurnResult::Choice(choice) => match self.choose(out, choice, limit)? {
+                    RunResult::Finished => self.printer.queue.forget_laid(),
+                    RunResult::Shift => return Ok(RunResult::Shift),
+                },
+            }
+        }
+        Ok(RunResult::Finished)
+    }
+
+    // Lays the commands and then, round by round, the line suffixes that are pending at the end, as long as probes are not past
+    // the limit.
+    fn run_to_end<W: Render>(
+        &mut self,
+        out: &mut W,
+        limit: u64,
+    ) -> Result<RunResult, RenderError<W::Error>>
+        requires none { self.old.trials.open.items ≡ [] }
+        requires summed { IsSummed N.HAS_SUMMARIES N.tree self.old.printer.commands }
+        ensures runs { RunsToEndOrStops (W.document_errors out.new) limit
+            (point_of N.tree self.old (seen W.bytes W.failures W.lender out.old))
+            (station_of N.tree self.new (seen W.bytes W.failures W.lender out.new)) result }
+        ensures spends { Plain (standing N.tree self.old.printer)
+            → SpendsAs (rule_of N.HAS_SUMMARIES limit) (left_alone N.tree self.old) (left_of N.tree self.new) result }
+        ensures summed { OnOk result (IsSummed N.HAS_SUMMARIES N.tree self.new.printer.commands) }
+    {
+        'rounds: loop {
+            match self.run_commands(out, limit)? {
+                RunResult::Shift => return Ok(RunResult::Shift),
+                RunResult::Finished => {
+                    if !is_pending(&self.printer) {
+                        return Ok(RunResult::Finished);
+                    }
+                    flush_end(&mut self.printer, out)?;
                 }
-                flush_end(printer, out)?;
             }
         }
     }
-}
 
-/// Resumes the open trials, if there are any, and then runs to the end, as long as probes are not past the limit.
-pub(crate) fn resume<N: Walk, W: Render>(
-    printer: &mut Printer<N>,
-    trials: &mut Trials<N>,
-    buffer: &mut Buffer,
-    out: &mut W,
-    limit: u64,
-    visits: &mut Visits,
-) -> Result<RunResult, RenderError<W::Error>>
-    requires comes { (a : Point) × RunReaches a (all_held N.tree trials.old.open.items) (buffer_seen buffer.old)
-        (point N.tree printer.old (seen W.bytes W.failures W.lender out.old) visits.old) }
-    requires summed { IsSummed N.HAS_SUMMARIES N.tree printer.old.commands }
-    ensures runs { (a : Point) → RunReaches a (all_held N.tree trials.old.open.items) (buffer_seen buffer.old)
-        (point N.tree printer.old (seen W.bytes W.failures W.lender out.old) visits.old) →
-        RunsToEndOrStops (W.document_errors out.new) limit a (all_held N.tree trials.new.open.items) (buffer_seen buffer.new)
-        (point N.tree printer.new (seen W.bytes W.failures W.lender out.new) visits.new) result }
-    ensures spends { (a : Point) → RunReaches a (all_held N.tree trials.old.open.items) (buffer_seen buffer.old)
-        (point N.tree printer.old (seen W.bytes W.failures W.lender out.old) visits.old) →
-        Plain a.printer → SpendsAs (rule_of N.HAS_SUMMARIES limit)
-        (left (standing N.tree printer.old) (seconds (all_held N.tree trials.old.open.items)) visits.old)
-        (left (standing N.tree printer.new) (seconds (all_held N.tree trials.new.open.items)) visits.new) result }
-    ensures summed { OnOk result (IsSummed N.HAS_SUMMARIES N.tree printer.new.commands) }
-{
-    if trials.is_empty() {
-        return run_to_end(printer, trials, buffer, out, limit, visits);
+    /// Resumes the open trials, if there are any, and then runs to the end, as long as probes are not past the limit
+    /// (`TurnResult::Shift`).
+    pub(crate) fn resume<W: Render>(
+        &mut self,
+        out: &mut W,
+        limit: u64,
+    ) -> Result<RunResult, RenderError<W::Error>>
+        requires comes { (a : Point) × RunReaches a (station_of N.tree self.old (seen W.bytes W.failures W.lender out.old)) }
+        requires summed { IsSummed N.HAS_SUMMARIES N.tree self.old.printer.commands }
+        ensures runs { (a : Point) → RunReaches a (station_of N.tree self.old (seen W.bytes W.failures W.lender out.old))
+            → RunsToEndOrStops (W.document_errors out.new) limit a
+            (station_of N.tree self.new (seen W.bytes W.failures W.lender out.new)) result }
+        ensures spends { (a : Point) → RunReaches a (station_of N.tree self.old (seen W.bytes W.failures W.lender out.old))
+            → Plain a.printer
+            → SpendsAs (rule_of N.HAS_SUMMARIES limit) (left_of N.tree self.old) (left_of N.tree self.new) result }
+        ensures summed { OnOk result (IsSummed N.HAS_SUMMARIES N.tree self.new.printer.commands) }
+    {
+        if self.trials.is_empty() {
+            return self.run_to_end(out, limit);
+        }
+        match self.resume_choice(out, limit)? {
+            RunResult::Finished => self.run_to_end(out, limit),
+            RunResult::Shift => Ok(RunResult::Shift),
+        }
     }
-    match resume_choice(printer, trials, buffer, out, limit, visits)? {
-        RunResult::Finished => run_to_end(printer, trials, buffer, out, limit, visits),
-        RunResult::Shift => Ok(RunResult::Shift),
-    }
-}
 
-/// Runs to the end, however much probes visit.
-pub(crate) fn finish<N: Walk, W: Render>(
-    printer: &mut Printer<N>,
-    trials: &mut Trials<N>,
-    buffer: &mut Buffer,
-    out: &mut W,
-    visits: &mut Visits,
-) -> Result<(), RenderError<W::Error>>
-    requires comes { (a : Point) × RunReaches a (all_held N.tree trials.old.open.items) (buffer_seen buffer.old)
-        (point N.tree printer.old (seen W.bytes W.failures W.lender out.old) visits.old) }
-    requires summed { IsSummed N.HAS_SUMMARIES N.tree printer.old.commands }
-    ensures spends { (a : Point) → RunReaches a (all_held N.tree trials.old.open.items) (buffer_seen buffer.old)
-        (point N.tree printer.old (seen W.bytes W.failures W.lender out.old) visits.old) →
-        Plain a.printer → Spends (rule_of N.HAS_SUMMARIES (2 ^ 64 - 1))
-        (left (standing N.tree printer.old) (seconds (all_held N.tree trials.old.open.items)) visits.old)
-        (none_left visits.new) }
-    ensures ends { (a : Point) → RunReaches a (all_held N.tree trials.old.open.items) (buffer_seen buffer.old)
-        (point N.tree printer.old (seen W.bytes W.failures W.lender out.old) visits.old) →
-        RunsToEnd (W.document_errors out.new) a
-        (point N.tree printer.new (seen W.bytes W.failures W.lender out.new) visits.new) result }
-{
-    match resume(printer, trials, buffer, out, u64::MAX, visits)? {
-        RunResult::Finished => Ok(()),
-        RunResult::Shift => unreachable!(),
+    /// Runs to the end, however much probes visit.
+    pub(crate) fn finish<W: Render>(&mut self, out: &mut W) -> Result<(), RenderError<W::Error>>
+        requires comes { (a : Point) × RunReaches a (station_of N.tree self.old (seen W.bytes W.failures W.lender out.old)) }
+        requires summed { IsSummed N.HAS_SUMMARIES N.tree self.old.printer.commands }
+        ensures ends { (a : Point) → RunReaches a (station_of N.tree self.old (seen W.bytes W.failures W.lender out.old))
+            → RunsToEnd (W.document_errors out.new) a (point_of N.tree self.new (seen W.bytes W.failures W.lender out.new)) result }
+        ensures spends { (a : Point) → RunReaches a (station_of N.tree self.old (seen W.bytes W.failures W.lender out.old))
+            → Plain a.printer
+            → Spends (rule_of N.HAS_SUMMARIES (2 ^ 64 - 1)) (left_of N.tree self.old) (none_left self.new.visits) }
+    {
+        match self.resume(out, u64::MAX)? {
+            RunResult::Finished => Ok(()),
+            RunResult::Shift => unreachable!(),
+        }
     }
 }

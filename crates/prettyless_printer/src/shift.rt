@@ -1,64 +1,32 @@
 //! The shift: what a run has left is stored in a table, and the run goes on over that.
 //! It knows runs, trials and tables, and takes no turns.
-ghost use Rattle.std.specs.Prelude.{◌≡◌, ◌<◌, ◌≤◌, ◌+◌, ◌-◌, ◌^◌, ◌++◌, ⊤, IfOk, IfSome, MatchOption, length, min, true};
-ghost use Rattle.std.specs.List.{sum_by};
-ghost use Rattle.prettyless_model.specs.Tree.{size};
+ghost use Rattle.std.specs.Prelude.{◌≡◌, ◌<◌, ◌≤◌, ◌+◌, ◌++◌, IfNone, IfOk, IfSome, MatchOption, OnErr, [], length, min};
 ghost use Rattle.prettyless_step.specs.Printing.{tasks_of};
 ghost use Rattle.prettyless_probe.specs.Stack.{nodes, trees};
 ghost use Rattle.prettyless_probe.specs.Sums.{IsSummed};
 ghost use Rattle.prettyless_table.specs.Cells.{CellsGrow, CellsAreSound};
-ghost use Rattle.prettyless_table.specs.Owners.{Stand, all_owners, documents_left};
-ghost use Rattle.prettyless_table.specs.Shift.{AreNodes, nodes_left};
-ghost use Rattle.prettyless_printer.specs.Points.{Point, buffer_seen, point, seen, standing};
+ghost use Rattle.prettyless_table.specs.Owners.{Stand, all_owners};
+ghost use Rattle.prettyless_table.specs.Shift.{AreNodes};
+ghost use Rattle.prettyless_printer.specs.Points.{Point, point_of, seen, standing};
 ghost use Rattle.prettyless_printer.specs.Open.{all_held, seconds};
 ghost use Rattle.prettyless_printer.specs.Renders.{EndsAnywhere};
-ghost use Rattle.prettyless_printer.specs.Runs.{RunReaches};
-ghost use Rattle.prettyless_printer.specs.Visits.{Plain};
+ghost use Rattle.prettyless_printer.specs.Runs.{RunReaches, station_of};
 ghost use Rattle.prettyless_printer.specs.Linear.{IsLinearBound, IsLinearStart};
-ghost use Rattle.prettyless_printer.specs.Spending.{IsUnended, Spends, left, none_left, rule_of};
+ghost use Rattle.prettyless_printer.specs.Spending.{EndsOverTable, left_of};
+ghost use Rattle.prettyless_printer.specs.Storing.{run_documents, run_nodes};
 
 use crate::answer::RunResult;
 use crate::buffer::Buffer;
-use crate::run::{finish, resume};
-use crate::shift_policy::{ROOM_AT_FIRST, ShiftPolicy};
+use crate::run::Run;
+use crate::shift_policy::ShiftPolicy;
 use crate::trial::{OpenTrial, Trials};
 use prettyless_model::count::one_more;
 use prettyless_probe::walk::Walk;
 use prettyless_sink::error::RenderError;
 use prettyless_sink::render::Render;
-use prettyless_sink::visits::Visits;
-use prettyless_step::printer::Printer;
 use prettyless_table::{MOST_CELLS, Placed, Table, count, count_left, placed_printer, store_all};
 use std::alloc::{AllocError, Global};
-
-// How many nodes are left, with the second branches of open trials; those that take cells are listed after `owners`. `None` is answered
-// where there are more than `most`: so nothing is stored in vain, and the table asks for its memory once.
-fn count_all<N: Walk>(
-    alloc: Global,
-    printer: &Printer<N>,
-    trials: &Trials<N>,
-    owners: &mut Vec<N>,
-    most: usize,
-) -> Result<Option<usize>, AllocError>
-    ensures counted { IfOk result (λ o. MatchOption o
-        (most < nodes_left N.tree printer.now + sum_by size (seconds (all_held N.tree trials.now.open.items)))
-        (λ n. (n ≡ nodes_left N.tree printer.now + sum_by size (seconds (all_held N.tree trials.now.open.items))) × (n ≤ most))) }
-    ensures listed { IfOk result (λ o. IfSome o (λ _. trees N.tree owners.new.items ≡ trees N.tree owners.old.items
-        ++ all_owners (documents_left N.tree printer.now ++ seconds (all_held N.tree trials.now.open.items)))) }
-{
-    let Some(mut counted) = count_left(alloc, printer, owners, most)? else {
-        return Ok(None);
-    };
-    let mut k = 0;
-    'trials: while k < trials.open.len() {
-        let Some(more) = count(alloc, trials.open[k].second, owners, most - counted)? else {
-            return Ok(None);
-        };
-        counted += more;
-        k += 1;
-    }
-    Ok(Some(counted))
-}
+use std::mem::replace;
 
 // Adds the second branches of open trials to a table that has the cells of their nodes, and answers their places, the outermost first.
 fn store_seconds<N: Walk>(
@@ -108,121 +76,133 @@ fn placed_trials<'t, N: Walk>(
     Ok(placed)
 }
 
-// Stores what is left in a table, with the second branches of open trials, and goes on over that to the end. `None` is answered
-// where it would have more nodes than there is room for, or than a table can have. Then nothing has changed, nor where memory is
-// refused for the table.
-#[inline(never)]
-pub(crate) fn shift<N: Walk, W: Render>(
-    alloc: Global,
-    printer: &Printer<N>,
-    trials: &Trials<N>,
-    buffer: &mut Buffer,
-    room: u64,
-    out: &mut W,
-    visits: &mut Visits,
-) -> Result<Option<Result<(), RenderError<W::Error>>>, AllocError>
-    requires comes { (a : Point) × RunReaches a (all_held N.tree trials.now.open.items) (buffer_seen buffer.old)
-        (point N.tree printer.now (seen W.bytes W.failures W.lender out.old) visits.old) }
-    ensures ended { IfOk result (λ o. IfSome o
-        (λ r. (a : Point) → RunReaches a (all_held N.tree trials.now.open.items) (buffer_seen buffer.old)
-        (point N.tree printer.now (seen W.bytes W.failures W.lender out.old) visits.old) →
-        EndsAnywhere (W.document_errors out.new) a (seen W.bytes W.failures W.lender out.new) visits.new r)) }
-    ensures spends { IfOk result (λ o. IfSome o
-        (λ r. (a : Point) → RunReaches a (all_held N.tree trials.now.open.items) (buffer_seen buffer.old)
-        (point N.tree printer.now (seen W.bytes W.failures W.lender out.old) visits.old) →
-        Plain a.printer → Spends (rule_of true (2 ^ 64 - 1))
-        (left (standing N.tree printer.now) (seconds (all_held N.tree trials.now.open.items)) visits.old)
-        (none_left visits.new))) }
-    ensures large { IfOk result (λ o. MatchOption o
-        (min room 4294967294 < nodes_left N.tree printer.now + sum_by size (seconds (all_held N.tree trials.now.open.items)))
-        (λ _. ⊤)) }
-    ensures same { IsUnended result → (out.new ≡ out.old) × (visits.new ≡ visits.old) × (buffer.new ≡ buffer.old) }
-{
-    let most = (room as usize).min(MOST_CELLS);
-    let mut owners = Vec::new(alloc);
-    let Some(nodes) = count_all(alloc, printer, trials, &mut owners, most)? else {
-        return Ok(None);
-    };
-    let mut table = Table::with_room(alloc, nodes)?;
-    let mut waiting = table.fill(alloc, owners)?;
-    let places = store_all(alloc, printer, &mut table, &mut waiting)?;
-    let seconds = store_seconds(alloc, trials, &mut table, &mut waiting)?;
-    let mut placed = placed_printer(alloc, printer, &table, &places)?;
-    let mut placed_trials = placed_trials(alloc, trials, &table, &seconds)?;
-    Ok(Some(finish(&mut placed, &mut placed_trials, buffer, out, visits)))
-}
-
-/// Runs to the end, over a table from where that is worth it. Tables that are refused memory are counted.
-pub(crate) fn run_with_shift<N: Walk, W: Render>(
-    alloc: Global,
-    printer: &mut Printer<N>,
-    out: &mut W,
-    visits: &mut Visits,
-    refused: &mut u64,
-) -> Result<(), RenderError<W::Error>>
-    requires { IsSummed N.HAS_SUMMARIES N.tree printer.old.commands }
-    ensures ends { EndsAnywhere (W.document_errors out.new)
-        (point N.tree printer.old (seen W.bytes W.failures W.lender out.old) visits.old)
-        (seen W.bytes W.failures W.lender out.new) visits.new result }
-    ensures rises { refused.old ≤ refused.new }
-    ensures few { IsLinearStart (standing N.tree printer.old) → refused.new ≡ 0 →
-        IsLinearBound 16 1000 (nodes (tasks_of N.tree printer.old)) visits.old visits.new }
-{
-    let mut trials = Trials::new(alloc);
-    let mut buffer = Buffer::new(alloc);
-    let mut policy = ShiftPolicy::new(*visits);
-    'rounds: loop {
-        let limit = policy.limit(*visits);
-        match resume(printer, &mut trials, &mut buffer, out, limit, visits)? {
-            RunResult::Finished => return Ok(()),
-            RunResult::Shift => {}
+impl<N: Walk> Run<N> {
+    // How many nodes are left, with the second branches of open trials; those that take cells are listed after `owners`. `None` is
+    // answered where there are more than `most`: so nothing is stored in vain, and the table asks for its memory once.
+    fn count_all(&self, owners: &mut Vec<N>, most: usize) -> Result<Option<usize>, AllocError>
+        ensures counted { IfOk result (λ o. MatchOption o (most < run_nodes N.tree self.now)
+            (λ n. (n ≡ run_nodes N.tree self.now) × (n ≤ most))) }
+        ensures listed { IfOk result (λ o. IfSome o (λ _. trees N.tree owners.new.items
+            ≡ trees N.tree owners.old.items ++ all_owners (run_documents N.tree self.now))) }
+    {
+        let Some(mut counted) = count_left(self.alloc, &self.printer, owners, most)? else {
+            return Ok(None);
+        };
+        let mut k = 0;
+        'trials: while k < self.trials.open.len() {
+            let second = self.trials.open[k].second;
+            let Some(more) = count(self.alloc, second, owners, most - counted)? else {
+                return Ok(None);
+            };
+            counted += more;
+            k += 1;
         }
-        if policy.is_worth(*visits) {
-            let room = policy.next_room(*visits);
-            match shift(alloc, printer, &trials, &mut buffer, room, out, visits) {
-                Ok(Some(ended)) => return ended,
-                Ok(None) => {}
-                Err(_) => *refused = one_more(*refused),
+        Ok(Some(counted))
+    }
+
+    // Stores what is left in a table, with the second branches of open trials, and goes on over that to the end. `None` is answered
+    // where it would have more nodes than there is room for, or than a table can have. Then nothing has changed, nor where memory
+    // is refused for the table.
+    #[inline(never)]
+    fn shift<W: Render>(
+        &mut self,
+        out: &mut W,
+        room: u64,
+    ) -> Result<Option<Result<(), RenderError<W::Error>>>, AllocError>
+        requires comes { (a : Point) × RunReaches a (station_of N.tree self.old (seen W.bytes W.failures W.lender out.old)) }
+        ensures ended { IfOk result (λ o. IfSome o (λ r. (a : Point)
+            → RunReaches a (station_of N.tree self.old (seen W.bytes W.failures W.lender out.old))
+            → EndsOverTable (W.document_errors out.new) a (left_of N.tree self.old)
+            (seen W.bytes W.failures W.lender out.new) self.new.visits r)) }
+        ensures large { IfOk result (λ o. IfNone o (min room 4294967294 < run_nodes N.tree self.old)) }
+        ensures none { IfOk result (λ o. IfNone o ((out.new ≡ out.old) × (self.new ≡ self.old))) }
+        ensures refused { OnErr result ((out.new ≡ out.old) × (self.new ≡ self.old)) }
+    {
+        let alloc = self.alloc;
+        let most = (room as usize).min(MOST_CELLS);
+        let mut owners = Vec::new(alloc);
+        let Some(nodes) = self.count_all(&mut owners, most)? else {
+            return Ok(None);
+        };
+        let mut table = Table::with_room(alloc, nodes)?;
+        let mut waiting = table.fill(alloc, owners)?;
+        let places = store_all(alloc, &self.printer, &mut table, &mut waiting)?;
+        let seconds = store_seconds(alloc, &self.trials, &mut table, &mut waiting)?;
+        let printer = placed_printer(alloc, &self.printer, &table, &places)?;
+        let trials = placed_trials(alloc, &self.trials, &table, &seconds)?;
+        let buffer = replace(&mut self.buffer, Buffer::new(alloc));
+        let mut placed = Run {
+            alloc,
+            printer,
+            trials,
+            buffer,
+            visits: self.visits,
+        };
+        let ended = placed.finish(out);
+        self.visits = placed.visits;
+        Ok(Some(ended))
+    }
+
+    // Shifts where there is any room. A table that is refused memory is counted.
+    fn try_shift<W: Render>(
+        &mut self,
+        out: &mut W,
+        room: u64,
+        refused: &mut u64,
+    ) -> Option<Result<(), RenderError<W::Error>>>
+        requires comes { (a : Point) × RunReaches a (station_of N.tree self.old (seen W.bytes W.failures W.lender out.old)) }
+        ensures ended { IfSome result (λ r. (a : Point)
+            → RunReaches a (station_of N.tree self.old (seen W.bytes W.failures W.lender out.old))
+            → EndsOverTable (W.document_errors out.new) a (left_of N.tree self.old)
+            (seen W.bytes W.failures W.lender out.new) self.new.visits r) }
+        ensures large { IfNone result (0 < room → refused.new ≡ 0 → min room 4294967294 < run_nodes N.tree self.old) }
+        ensures none { IfNone result ((out.new ≡ out.old) × (self.new ≡ self.old)) }
+        ensures rises { refused.old ≤ refused.new }
+    {
+        if room == 0 {
+            return None;
+        }
+        match self.shift(out, room) {
+            Ok(Some(ended)) => Some(ended),
+            Ok(None) => None,
+            Err(_) => {
+                *refused = one_more(*refused);
+                None
             }
         }
     }
-}
 
-/// Runs to the end over a table of all nodes, where there are few enough, and else as `run_with_shift` does. Tables that are refused
-/// memory are counted.
-pub(crate) fn run_over_table<N: Walk, W: Render>(
-    alloc: Global,
-    printer: &mut Printer<N>,
-    out: &mut W,
-    visits: &mut Visits,
-    refused: &mut u64,
-) -> Result<(), RenderError<W::Error>>
-    requires { IsSummed N.HAS_SUMMARIES N.tree printer.old.commands }
-    ensures ends { EndsAnywhere (W.document_errors out.new)
-        (point N.tree printer.old (seen W.bytes W.failures W.lender out.old) visits.old)
-        (seen W.bytes W.failures W.lender out.new) visits.new result }
-    ensures rises { refused.old ≤ refused.new }
-    ensures few { IsLinearStart (standing N.tree printer.old) → refused.new ≡ 0 →
-        IsLinearBound 16 1000 (nodes (tasks_of N.tree printer.old)) visits.old visits.new }
-    ensures twice { IsLinearStart (standing N.tree printer.old) → nodes (tasks_of N.tree printer.old) ≤ 1048576 → refused.new ≡ 0 →
-        IsLinearBound 2 0 (nodes (tasks_of N.tree printer.old)) visits.old visits.new }
-{
-    let trials = Trials::new(alloc);
-    let mut buffer = Buffer::new(alloc);
-    match shift(
-        alloc,
-        printer,
-        &trials,
-        &mut buffer,
-        ROOM_AT_FIRST,
-        out,
-        visits,
-    ) {
-        Ok(Some(ended)) => ended,
-        Ok(None) => run_with_shift(alloc, printer, out, visits, refused),
-        Err(_) => {
-            *refused = one_more(*refused);
-            run_with_shift(alloc, printer, out, visits, refused)
+    /// Runs to the end, over a table from where that is worth it, and from the first node on where there is room for all nodes at
+    /// first. Tables that are refused memory are counted.
+    pub(crate) fn run_with_shift<W: Render>(
+        &mut self,
+        out: &mut W,
+        room_at_first: u64,
+        refused: &mut u64,
+    ) -> Result<(), RenderError<W::Error>>
+        requires none { self.old.trials.open.items ≡ [] }
+        requires summed { IsSummed N.HAS_SUMMARIES N.tree self.old.printer.commands }
+        ensures ends { EndsAnywhere (W.document_errors out.new)
+            (point_of N.tree self.old (seen W.bytes W.failures W.lender out.old))
+            (seen W.bytes W.failures W.lender out.new) self.new.visits result }
+        ensures rises { refused.old ≤ refused.new }
+        ensures few { IsLinearStart (standing N.tree self.old.printer) → refused.new ≡ 0
+            → IsLinearBound 16 1000 (nodes (tasks_of N.tree self.old.printer)) self.old.visits self.new.visits }
+        ensures twice { IsLinearStart (standing N.tree self.old.printer) → refused.new ≡ 0 → 0 < room_at_first
+            → nodes (tasks_of N.tree self.old.printer) ≤ room_at_first
+            → IsLinearBound 2 0 (nodes (tasks_of N.tree self.old.printer)) self.old.visits self.new.visits }
+    {
+        let mut policy = ShiftPolicy::new(self.visits);
+        let mut room = room_at_first;
+        'rounds: loop {
+            if let Some(ended) = self.try_shift(out, room, refused) {
+                return ended;
+            }
+            let limit = policy.limit(self.visits);
+            match self.resume(out, limit)? {
+                RunResult::Finished => return Ok(()),
+                RunResult::Shift => room = policy.next_room(self.visits),
+            }
         }
     }
 }

@@ -26,7 +26,7 @@ pub struct ShiftPolicy {
 }
 
 impl ShiftPolicy {
-    ghost use Rattle.std.specs.Prelude.{IsFalse};
+    ghost use Rattle.std.specs.Prelude.{max};
     ghost use Rattle.prettyless_printer.specs.ShiftPolicy.{probe_limit};
 
     /// Before a render. A table is made as soon as it is worth it.
@@ -46,19 +46,16 @@ impl ShiftPolicy {
         self.start.probes.saturating_add(worth.max(self.next_try))
     }
 
-    /// Whether a table is worth it.
-    pub(crate) fn is_worth(&self, visits: Visits) -> bool
-        ensures { IsFalse result → visits.probes ≤ probe_limit self.now visits }
-    {
-        visits.probes > self.limit(visits)
-    }
-
-    /// How many nodes a table may have: so many times as many as were visited in the render. Where none with so many is made, the next
-    /// one is tried once probes have visited as many nodes.
+    /// How many nodes a table may have: none where it is not worth it, and else so many times as many as were visited in the render.
+    /// Where none with so many is made, the next one is tried once probes have visited as many nodes.
     pub(crate) fn next_room(&mut self, visits: Visits) -> u64
-        ensures next { self.new ≡ record self.old { next_try = result } }
+        ensures start { self.new.start ≡ self.old.start }
+        ensures next { self.new.next_try ≤ max self.old.next_try result }
         ensures within { visits.probes ≤ probe_limit self.new visits }
     {
+        if visits.probes <= self.limit(visits) {
+            return 0;
+        }
         let printer = visits.printer.saturating_sub(self.start.printer);
         let probes = visits.probes.saturating_sub(self.start.probes);
         self.next_try = printer.saturating_add(probes).saturating_mul(ROOM);

@@ -4,20 +4,20 @@ ghost use Rattle.std.specs.String.{string_bytes};
 ghost use Rattle.std.specs.String.Boundary.{IsSplitPoint};
 ghost use Rattle.prettyless_model.specs.Tree.{Tree};
 ghost use Rattle.prettyless_probe.specs.Sums.{IsSummed};
-ghost use Rattle.prettyless_printer.specs.Points.{buffer_seen, point, standing};
+ghost use Rattle.prettyless_printer.specs.Points.{buffer_seen, standing, trial_point};
 ghost use Rattle.prettyless_printer.specs.Trials.{Trial, TrialTurns, Marks, Restores, TrialStopsPast};
-ghost use Rattle.prettyless_printer.specs.Open.{BeginsTrial, TrialsEnd, Open, Opens, all_held, below_all, seconds};
+ghost use Rattle.prettyless_printer.specs.Open.{BeginsTrial, TrialsEnd, Open, Opens, all_held, below_all, held_of};
 ghost use Rattle.prettyless_printer.specs.Visits.{Plain};
-ghost use Rattle.prettyless_printer.specs.Spending.{IsPlainTrial, Spends, SpendsAs, after_trial_turn, left, rule_of};
+ghost use Rattle.prettyless_printer.specs.Spending.{IsPlainTrial, Spends, SpendsAs, after_trial_turn, left_alone, left_of, rule_of};
 
-use crate::answer::{TrialResult, TrialState, TurnResult};
+use crate::answer::{Choice, TrialResult, TrialState, TurnResult};
 use crate::buffer::Buffer;
+use crate::run::Run;
 use crate::turn::turn;
 use prettyless_model::column::Column;
 use prettyless_model::mode::Mode;
 use prettyless_probe::walk::Walk;
 use prettyless_sink::error::RenderError;
-use prettyless_sink::visits::Visits;
 use prettyless_step::pending::is_pending;
 use prettyless_step::printer::Printer;
 use prettyless_step::queue::QueueMark;
@@ -117,128 +117,106 @@ fn memory_of(error: RenderError<AllocError>) -> AllocError {
     }
 }
 
-/// Opens a trial of a first branch at an indent. The second branch waits.
-pub(crate) fn open_trial<N: Walk>(
-    printer: &mut Printer<N>,
-    trials: &mut Trials<N>,
-    buffer: &Buffer,
-    indent: usize,
-    first: N,
-    second: N,
-) -> Result<(), AllocError>
-    requires summed { IsSummed N.HAS_SUMMARIES N.tree printer.old.commands }
-    ensures held { OnOk result (Opens N.tree indent (N.tree second) (standing N.tree printer.old) (buffer_seen buffer.now)
-        (all_held N.tree trials.old.open.items) (all_held N.tree trials.new.open.items)) }
-    ensures queue { printer.new.queue ≡ printer.old.queue }
-    ensures begun { OnOk result (BeginsTrial indent (N.tree first) (standing N.tree printer.old) (standing N.tree printer.new)) }
-    ensures summed { OnOk result (IsSummed N.HAS_SUMMARIES N.tree printer.new.commands) }
-{
-    let mark = mark_of(printer, buffer);
-    trials.open.push(OpenTrial {
-        mark,
-        indent,
-        second,
-    })?;
-    printer.within = true;
-    printer.commands.push(indent, Mode::Break, first)
-}
-
-// One turn of a trial that has this many commands below its branch; or its end, where it is over if the padding fits.
-fn advance<N: Walk>(
-    printer: &mut Printer<N>,
-    buffer: &mut Buffer,
-    below: usize,
-    limit: u64,
-    visits: &mut Visits,
-) -> Result<TrialState<N>, AllocError>
-    requires summed { IsSummed N.HAS_SUMMARIES N.tree printer.old.commands }
-    ensures courses { TrialTurns N.tree below
-        (point N.tree printer.old (buffer_seen buffer.old) visits.old)
-        (point N.tree printer.new (buffer_seen buffer.new) visits.new) result }
-    ensures past { IfOk result (λ c. TrialStopsPast limit visits.new.probes c) }
-    ensures spends { Plain (standing N.tree printer.old) → Spends
-        (rule_of N.HAS_SUMMARIES limit)
-        (left (standing N.tree printer.old) [] visits.old)
-        (after_trial_turn N.tree (standing N.tree printer.new) visits.new result) }
-    ensures summed { OnOk result (IsSummed N.HAS_SUMMARIES N.tree printer.new.commands) }
-{
-    if printer.commands.len() <= below {
-        if printer
-            .column
-            .padding_fits(printer.options.width, is_pending(printer))
-        {
-            return Ok(TrialState::Complete);
-        }
-        return Ok(TrialState::Rejected);
+impl<N: Walk> Run<N> {
+    /// Opens a trial of the first branch of a choice. The second branch waits.
+    pub(crate) fn open_trial(&mut self, choice: Choice<N>) -> Result<(), AllocError>
+        requires summed { IsSummed N.HAS_SUMMARIES N.tree self.old.printer.commands }
+        ensures held { OnOk result (Opens N.tree choice.indent (N.tree choice.second) (standing N.tree self.old.printer)
+            (buffer_seen self.old.buffer) (held_of N.tree self.old) (held_of N.tree self.new)) }
+        ensures begun { OnOk result (BeginsTrial choice.indent (N.tree choice.first) (standing N.tree self.old.printer)
+            (standing N.tree self.new.printer)) }
+        ensures queue { self.new.printer.queue ≡ self.old.printer.queue }
+        ensures others { self.new ≡ record self.old { printer = self.new.printer; trials = self.new.trials } }
+        ensures summed { OnOk result (IsSummed N.HAS_SUMMARIES N.tree self.new.printer.commands) }
+    {
+        let mark = mark_of(&self.printer, &self.buffer);
+        self.trials.open.push(OpenTrial {
+            mark,
+            indent: choice.indent,
+            second: choice.second,
+        })?;
+        self.printer.within = true;
+        self.printer
+            .commands
+            .push(choice.indent, Mode::Break, choice.first)
     }
-    match turn(printer, buffer, limit, visits) {
-        Err(e) => Err(memory_of(e)),
-        Ok(TurnResult::Failed) => Ok(TrialState::Rejected),
-        Ok(TurnResult::Complete) => {
-            if printer.within {
-                return Ok(TrialState::Running);
-            }
-            Ok(TrialState::Rejected)
-        }
-        Ok(TurnResult::Choice(indent, first, second)) => Ok(TrialState::Choice(
-            indent, first, second,
-        )),
-        Ok(TurnResult::Shift) => Ok(TrialState::Shift),
-    }
-}
 
-/// Resumes the open trials, each turn in the innermost one, until the outermost one is over, or before a node probes are past
-/// the limit. A trial lays its branch without what follows it but with that known. The branch is kept if it does not fail, nothing
-/// of it goes past the width, and at its end the padding fits; else all is as before, and the second branch comes next. A refusal
-/// of memory is an error, and never a reason to reject a branch.
-pub(crate) fn resume_trial<N: Walk>(
-    printer: &mut Printer<N>,
-    trials: &mut Trials<N>,
-    buffer: &mut Buffer,
-    limit: u64,
-    visits: &mut Visits,
-) -> Result<TrialResult, AllocError>
-    requires some { 0 < length trials.old.open.items }
-    requires summed { IsSummed N.HAS_SUMMARIES N.tree printer.old.commands }
-    requires open { (s : Trial) × (y : Tree) × Open s y (all_held N.tree trials.old.open.items)
-        (point N.tree printer.old (buffer_seen buffer.old) visits.old) }
-    ensures ends { (s : Trial) (y : Tree) → Open s y (all_held N.tree trials.old.open.items)
-        (point N.tree printer.old (buffer_seen buffer.old) visits.old) →
-        TrialsEnd limit s y (point N.tree printer.new (buffer_seen buffer.new) visits.new) (all_held N.tree trials.new.open.items) result }
-    ensures spends { (s : Trial) (y : Tree) → Open s y (all_held N.tree trials.old.open.items)
-        (point N.tree printer.old (buffer_seen buffer.old) visits.old) → IsPlainTrial s y → SpendsAs
-        (rule_of N.HAS_SUMMARIES limit)
-        (left (standing N.tree printer.old) (seconds (all_held N.tree trials.old.open.items)) visits.old)
-        (left (standing N.tree printer.new) (seconds (all_held N.tree trials.new.open.items)) visits.new) result }
-    ensures summed { OnOk result (IsSummed N.HAS_SUMMARIES N.tree printer.new.commands) }
-{
-    'work: loop {
-        match advance(printer, buffer, trials.below(), limit, visits)? {
-            TrialState::Running => {}
-            TrialState::Shift => return Ok(TrialResult::Shift),
-            TrialState::Complete => {
-                let Some(trial) = trials.open.pop() else {
-                    unreachable!()
-                };
-                printer.within = trial.mark.within;
-                if trials.is_empty() {
-                    return Ok(TrialResult::Kept);
-                }
+    // One turn of the innermost trial; or its end, where it is over if the padding fits.
+    fn advance(&mut self, limit: u64) -> Result<TrialState<N>, AllocError>
+        requires some { 0 < length self.old.trials.open.items }
+        requires summed { IsSummed N.HAS_SUMMARIES N.tree self.old.printer.commands }
+        ensures courses { TrialTurns N.tree (below_all (held_of N.tree self.old)) (trial_point N.tree self.old)
+            (trial_point N.tree self.new) result }
+        ensures past { IfOk result (λ c. TrialStopsPast limit self.new.visits.probes c) }
+        ensures spends { Plain (standing N.tree self.old.printer) → Spends (rule_of N.HAS_SUMMARIES limit)
+            (left_alone N.tree self.old) (after_trial_turn N.tree (standing N.tree self.new.printer) self.new.visits result) }
+        ensures trials { self.new.trials ≡ self.old.trials }
+        ensures summed { OnOk result (IsSummed N.HAS_SUMMARIES N.tree self.new.printer.commands) }
+    {
+        if self.printer.commands.len() <= self.trials.below() {
+            if self
+                .printer
+                .column
+                .padding_fits(self.printer.options.width, is_pending(&self.printer))
+            {
+                return Ok(TrialState::Complete);
             }
-            TrialState::Rejected => {
-                let Some(trial) = trials.open.pop() else {
-                    unreachable!()
-                };
-                undo(printer, trial.mark, buffer);
-                printer
-                    .commands
-                    .push(trial.indent, Mode::Break, trial.second)?;
-                if trials.is_empty() {
-                    return Ok(TrialResult::Rejected);
+            return Ok(TrialState::Rejected);
+        }
+        match turn(&mut self.printer, &mut self.buffer, limit, &mut self.visits) {
+            Err(e) => Err(memory_of(e)),
+            Ok(TurnResult::Failed) => Ok(TrialState::Rejected),
+            Ok(TurnResult::Complete) => {
+                if self.printer.within {
+                    return Ok(TrialState::Running);
                 }
+                Ok(TrialState::Rejected)
             }
-            TrialState::Choice(indent, first, second) => {
-                open_trial(printer, trials, buffer, indent, first, second)?;
+            Ok(TurnResult::Choice(choice)) => Ok(TrialState::Choice(choice)),
+            Ok(TurnResult::Shift) => Ok(TrialState::Shift),
+        }
+    }
+
+    /// Resumes the open trials, each turn in the innermost one, until the outermost one is over, or before a node probes are past
+    /// the limit. A trial lays its branch without what follows it but with that known. The branch is kept if it does not fail,
+    /// nothing of it goes past the width, and at its end the padding fits; else all is as before, and the second branch comes next.
+    /// A refusal of memory is an error, and never a reason to reject a branch.
+    pub(crate) fn resume_trial(&mut self, limit: u64) -> Result<TrialResult, AllocError>
+        requires open { (s : Trial) × (y : Tree) × Open s y (held_of N.tree self.old) (trial_point N.tree self.old) }
+        requires summed { IsSummed N.HAS_SUMMARIES N.tree self.old.printer.commands }
+        ensures ends { (s : Trial) (y : Tree) → Open s y (held_of N.tree self.old) (trial_point N.tree self.old)
+            → TrialsEnd limit s y (trial_point N.tree self.new) (held_of N.tree self.new) result }
+        ensures spends { (s : Trial) (y : Tree) → Open s y (held_of N.tree self.old) (trial_point N.tree self.old)
+            → IsPlainTrial s y
+            → SpendsAs (rule_of N.HAS_SUMMARIES limit) (left_of N.tree self.old) (left_of N.tree self.new) result }
+        ensures summed { OnOk result (IsSummed N.HAS_SUMMARIES N.tree self.new.printer.commands) }
+    {
+        'work: loop {
+            match self.advance(limit)? {
+                TrialState::Running => {}
+                TrialState::Shift => return Ok(TrialResult::Shift),
+                TrialState::Complete => {
+                    let Some(trial) = self.trials.open.pop() else {
+                        unreachable!()
+                    };
+                    self.printer.within = trial.mark.within;
+                    if self.trials.is_empty() {
+                        return Ok(TrialResult::Kept);
+                    }
+                }
+                TrialState::Rejected => {
+                    let Some(trial) = self.trials.open.pop() else {
+                        unreachable!()
+                    };
+                    undo(&mut self.printer, trial.mark, &mut self.buffer);
+                    self.printer
+                        .commands
+                        .push(trial.indent, Mode::Break, trial.second)?;
+                    if self.trials.is_empty() {
+                        return Ok(TrialResult::Rejected);
+                    }
+                }
+                TrialState::Choice(choice) => self.open_trial(choice)?,
             }
         }
     }

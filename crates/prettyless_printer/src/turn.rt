@@ -8,7 +8,7 @@ ghost use Rattle.prettyless_printer.specs.Visits.{Plain, visited_more};
 ghost use Rattle.prettyless_printer.specs.Spending.{Spends, after_turn, left, rule_of};
 ghost use Rattle.prettyless_printer.specs.Turns.{Advances, StopsPast};
 
-use crate::answer::TurnResult;
+use crate::answer::{Choice, TurnResult};
 use crate::flat_texts::{lay_texts, make_room};
 use prettyless_model::count::one_more;
 use prettyless_model::mode::Mode;
@@ -30,7 +30,7 @@ fn count_more(visits: &mut Visits, count: u64)
 
 /// Takes the next command, steps down to a node that leads to no other, and writes what that one gives.
 /// Each of these nodes is a visit, and so is a payload that a step rejects. Before a node that needs a probe it stops if probes have
-/// visited more nodes than the limit.
+/// visited more nodes than the limit (`TurnResult::Shift`).
 ///
 /// `Memory` is answered where memory was refused: nothing was written then. `Sink` is answered where the sink failed:
 /// a beginning of what was to be laid was written then. Both hold where the sink's bytes are known. A node that fails
@@ -107,7 +107,11 @@ pub fn turn<N: Walk, W: Render>(
             }
             Ok(StepResult::Choice(indent, first, second)) => {
                 count_more(visits, one_more(count));
-                return Ok(TurnResult::Choice(indent, first, second));
+                return Ok(TurnResult::Choice(Choice {
+                    indent,
+                    first,
+                    second,
+                }));
             }
             Ok(StepResult::Emit(piece)) => {
                 count_more(visits, one_more(count));

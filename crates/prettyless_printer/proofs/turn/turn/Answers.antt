@@ -268,7 +268,8 @@ returns-in-Ok-Choice-clause-advances g c =
     c.step.ensures.printer
     c.step.ensures.rises c.step.ensures.counted in
     rw c.count_more-in-Ok-Choice.ensures.more
-    (advances_choice f c.down.printer q hand one
+    (advances_choice f
+    (record { indent = c.in-Ok-Choice.indent; first = c.in-Ok-Choice.first; second = c.in-Ok-Choice.second }) c.down.printer q hand one
     (c.in-Ok-Choice.ensures.asked (subst IsStepped (sym c.in-Ok-Choice.field-0-is) tt))
     (shown f c.down.printer q c.in-Ok-Choice.field-0 (step_result.Choice c.in-Ok-Choice.indent c.in-Ok-Choice.first c.in-Ok-Choice.second)
     hand

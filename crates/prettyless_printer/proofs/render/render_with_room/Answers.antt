@@ -1,0 +1,35 @@
+use Rattle.std.proofs.Common.{ap, arith, subst}
+use Rattle.prettyless_sink.specs.declared.visits.Visits.{Visits}
+use Rattle.prettyless_model.specs.Tree.{size}
+use Rattle.prettyless_probe.proofs.Sizes.{size_positive}
+use Rattle.prettyless_printer.specs.Points.{seen}
+use Rattle.prettyless_printer.specs.Linear.{IsLinearBound}
+use Rattle.prettyless_printer.specs.Renders.{Renders}
+use Rattle.prettyless_printer.proofs.Shifted.{begins_few, begins_linear, begins_small, begun_renders, refused_renders}
+use Rattle.prettyless_printer.proofs.render.render_with_room.Goals as goal
+
+pub returns-in-Ok-clause-renders : goal.returns-in-Ok-clause-renders
+returns-in-Ok-clause-renders g c =
+    let see = seen g.W.Render.bytes g.W.Render.failures g.W.Render.lender in
+    let ran = c.run_with_shift-result in
+    let fails = g.W.Render.document_errors ran.new.out in
+    let before = c.in-Ok.ensures.visits in
+    subst (λ (v : Visits). Renders fails c.args.options (g.N.Walk.tree c.args.node) (see c.args.out.now) (see ran.new.out) v
+    (record ran.new.self.visits { refused = ran.new.refused }) ran.result) before
+    (begun_renders fails ran.new.refused ran.result c.in-Ok.ensures.begins ran.ensures.ends.1
+    (omega (arith, ran.ensures.rises, ap (λ (v : Visits). v.refused) before)) ran.ensures.few)
+
+pub returns-in-Ok-clause-twice : goal.returns-in-Ok-clause-twice
+returns-in-Ok-clause-twice g c = λ linear small none.
+    let d = g.N.Walk.tree c.args.node in
+    let ran = c.run_with_shift-result in
+    let begins = c.in-Ok.ensures.begins in
+    subst (λ (v : Visits). IsLinearBound 2 0 (size d) v ran.new.self.visits) c.in-Ok.ensures.visits
+    (begins_few 2 0 c.in-Ok.run'.visits ran.new.self.visits begins
+    (ran.ensures.twice (begins_linear begins linear) none (omega (arith, small, size_positive d)) (begins_small c.args.room begins small)))
+
+-- the document is refused memory
+pub returns-in-Err-clause-renders : goal.returns-in-Err-clause-renders
+returns-in-Err-clause-renders g c =
+    refused_renders (g.W.Render.document_errors c.args.out.now) c.args.options (g.N.Walk.tree c.args.node)
+    (seen g.W.Render.bytes g.W.Render.failures g.W.Render.lender c.args.out.now) c.args.visits.now _

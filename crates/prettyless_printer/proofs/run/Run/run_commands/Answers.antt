@@ -1,0 +1,199 @@
+use Rattle.std.proofs.Common.{◌<◌, ◌≤◌, length, ap, arith}
+use Rattle.std.proofs.lemmas.Result.{err_from_is_err_and}
+use Rattle.prettyless_step.specs.Printing.{tasks_of}
+use Rattle.prettyless_printer.specs.declared.answer.RunResult.TheVariants as run_result
+use Rattle.prettyless_printer.specs.Points.{point_of, seen}
+use Rattle.prettyless_printer.proofs.PathSteps.{run_begins, run_ends, run_error, goes_on, stops, path_to_choice, breaks_off}
+use Rattle.prettyless_printer.proofs.PathSteps.{fails_there}
+use Rattle.prettyless_printer.proofs.PathSteps.{error_anyhow}
+use Rattle.prettyless_printer.specs.Open.{all_held}
+use Rattle.prettyless_printer.specs.Paths.{run_of}
+use Rattle.prettyless_printer.specs.Runs.{station_of}
+use Rattle.prettyless_printer.specs.Spending.{left_of}
+use Rattle.prettyless_printer.proofs.Shifts.{comes_alone, comes_in_choice, continues_same, none_open, path_continues}
+use Rattle.prettyless_printer.proofs.Spending.{spends_all, spends_same}
+use Rattle.prettyless_printer.proofs.OpenSpending.{spends_error_as}
+use Rattle.prettyless_printer.proofs.Forgetting.{path_forgets, spends_forgets, work_forgets}
+use Rattle.prettyless_printer.proofs.RunSpending.{none_seconds, path_spends, seconds_none, waiting_spends}
+use Rattle.prettyless_printer.proofs.run.Run.run_commands.Goals as goal
+
+pub work-init : goal.work-init
+work-init g c = record {
+  path = run_begins (point_of g.N.Walk.tree c.args.self.now
+      (seen g.W.Render.bytes g.W.Render.failures g.W.Render.lender c.args.out.now));
+  none = c.requires.none;
+  spends = λ plain. spends_same _ _;
+  summed = c.requires.summed;
+}
+
+pub work-smaller-in-Complete : goal.work-smaller-in-Complete
+work-smaller-in-Complete g c =
+    let turned = rw c.in-Complete.is at c.in_ok-turn.ensures.advances in
+    omega (
+      arith,
+      work_forgets g.N.Walk.tree c.turn.new.printer c.forget_laid.new.self c.forget_laid.ensures.pending,
+      turned.work_falls,
+    )
+
+pub work-smaller : goal.work-smaller
+work-smaller g c =
+    let turned = rw c.in-Choice.is at c.in_ok-turn.ensures.advances in
+    let settled = rw c.in-Finished.is at c.in_ok-choose-in-Choice.ensures.settles in
+    let forgotten = c.forget_laid-in-Finished in
+    omega (
+      arith,
+      work_forgets g.N.Walk.tree c.choose.new.self.printer forgotten.new.self forgotten.ensures.pending,
+      settled.1.work_falls,
+      turned.work_falls.0,
+    )
+
+pub work-preserved-in-Complete : goal.work-preserved-in-Complete
+work-preserved-in-Complete g c =
+    let f = g.N.Walk.tree in
+    let l : 0 < length (tasks_of f c.work.self.printer) = omega (arith, c.work-test.true, c.len.ensures) in
+    let turned = rw c.in-Complete.is at c.in_ok-turn.ensures.advances in
+    let visits = c.turn.new.visits in
+    record {
+      path = path_forgets f c.turn.new.printer c.forget_laid.new.self _ visits c.forget_laid.ensures.pending
+          (goes_on f c.work.invariant.path l turned);
+      spends = λ plain.
+          spends_forgets f c.turn.new.printer c.forget_laid.new.self visits c.forget_laid.ensures.forgotten
+          (path_spends c.work.invariant.path plain (c.work.invariant.spends plain) (rw c.in-Complete.is at c.in_ok-turn.ensures.spends));
+      none = c.work.invariant.none;
+      summed = c.in_ok-turn.ensures.summed;
+    }
+
+pub work-preserved : goal.work-preserved
+work-preserved g c =
+    let f = g.N.Walk.tree in
+    let l : 0 < length (tasks_of f c.work.self.printer) = omega (arith, c.work-test.true, c.len.ensures) in
+    let start = point_of f c.args.self.now (seen g.W.Render.bytes g.W.Render.failures g.W.Render.lender c.args.out.now) in
+    let turned = rw c.in-Choice.is at c.in_ok-turn.ensures.advances in
+    let waiting = path_to_choice f c.in-Choice.choice c.work.invariant.path l turned (omega arith) in
+    let settled = rw c.in-Finished.is at c.in_ok-choose-in-Choice.ensures.settles in
+    let q = c.choose.new.self in
+    let forgotten = c.forget_laid-in-Finished in
+    record {
+      path = path_forgets f q.printer forgotten.new.self _ q.visits forgotten.ensures.pending (settled.1.runs (run_of start) waiting);
+      spends = λ plain.
+          spends_forgets f q.printer forgotten.new.self q.visits forgotten.ensures.forgotten
+          (seconds_none f q settled.0
+          (waiting_spends waiting plain
+          (path_spends c.work.invariant.path plain (c.work.invariant.spends plain) (rw c.in-Choice.is at c.in_ok-turn.ensures.spends))
+          c.in_ok-choose-in-Choice.ensures.spends));
+      none = none_open f q.trials.open.items settled.0;
+      summed = c.in_ok-choose-in-Choice.ensures.summed;
+    }
+
+-- it stops before a node
+pub returns-in-Shift-clause-works : goal.returns-in-Shift-clause-works
+returns-in-Shift-clause-works g c =
+    let f = g.N.Walk.tree in
+    let l : 0 < length (tasks_of f c.work.self.printer) = omega (arith, c.work-test.true, c.len.ensures) in
+    let sink = seen g.W.Render.bytes g.W.Render.failures g.W.Render.lender in
+    let start = point_of f c.args.self.now (sink c.args.out.now) in
+    let next = record c.work.self { printer = c.turn.new.printer; visits = c.turn.new.visits } in
+    let turned = rw c.in-Shift.is at c.in_ok-turn.ensures.advances in
+    record {
+      comes = comes_alone start (station_of f next (sink c.turn.new.out)) (ap (all_held f) c.work.invariant.none)
+          (path_continues (stops f c.work.invariant.path l turned));
+      past = rw c.in-Shift.is at c.in_ok-turn.ensures.past;
+    }
+
+pub returns-in-Failed-clause-works : goal.returns-in-Failed-clause-works
+returns-in-Failed-clause-works g c =
+    let f = g.N.Walk.tree in
+    let fails = g.W.Render.document_errors c.turn.new.out in
+    let l : 0 < length (tasks_of f c.work.self.printer) = omega (arith, c.work-test.true, c.len.ensures) in
+    run_error fails _ (fails_there f fails c.fail_doc.result c.work.invariant.path l
+    (rw c.in-Failed.is at c.in_ok-turn.ensures.advances) c.fail_doc.ensures)
+
+pub returns-in_err-turn-clause-works : goal.returns-in_err-turn-clause-works
+returns-in_err-turn-clause-works g c =
+    let residual = err_from_is_err_and c.from_residual.result c.from_residual.ensures.1 in
+    rw (residual.1, residual.2)
+    let f = g.N.Walk.tree in
+    let fails = g.W.Render.document_errors c.turn.new.out in
+    let l : 0 < length (tasks_of f c.work.self.printer) = omega (arith, c.work-test.true, c.len.ensures) in
+    run_error fails c.in_err-turn.field-0.0
+    (breaks_off f fails c.in_err-turn.field-0.0 c.work.invariant.path l c.in_err-turn.ensures.advances)
+
+pub returns-in_err-choose-in-Choice-clause-works : goal.returns-in_err-choose-in-Choice-clause-works
+returns-in_err-choose-in-Choice-clause-works g c =
+    let residual = err_from_is_err_and c.from_residual-in_err-choose-in-Choice.result c.from_residual-in_err-choose-in-Choice.ensures.1 in
+    rw (residual.1, residual.2)
+    let f = g.N.Walk.tree in
+    let fails = g.W.Render.document_errors c.choose.new.out in
+    let e = c.in_err-choose-in-Choice.field-0.0 in
+    let l : 0 < length (tasks_of f c.work.self.printer) = omega (arith, c.work-test.true, c.len.ensures) in
+    let waiting = path_to_choice f c.in-Choice.choice c.work.invariant.path l
+    (rw c.in-Choice.is at c.in_ok-turn.ensures.advances) (omega arith) in
+    run_error fails e
+    (error_anyhow fails e (c.in_err-choose-in-Choice.ensures.settles.runs
+    (run_of (point_of f c.args.self.now (seen g.W.Render.bytes g.W.Render.failures g.W.Render.lender c.args.out.now))) waiting))
+
+pub returns-clause-works : goal.returns-clause-works
+returns-clause-works g c =
+    let f = g.N.Walk.tree in
+    let l : length (tasks_of f c.work.self.printer) ≤ 0 = omega (arith, c.work-test.false, c.len.ensures) in
+    (ap (all_held f) c.work.invariant.none, run_ends (g.W.Render.document_errors c.work.out) run_result.Finished c.work.invariant.path l)
+
+-- it stops in a choice
+pub returns-in-Shift-2-clause-works : goal.returns-in-Shift-2-clause-works
+returns-in-Shift-2-clause-works g c =
+    let f = g.N.Walk.tree in
+    let l : 0 < length (tasks_of f c.work.self.printer) = omega (arith, c.work-test.true, c.len.ensures) in
+    let sink = seen g.W.Render.bytes g.W.Render.failures g.W.Render.lender in
+    let waiting = path_to_choice f c.in-Choice.choice c.work.invariant.path l
+    (rw c.in-Choice.is at c.in_ok-turn.ensures.advances) (omega arith) in
+    let settled = rw c.in-Shift-2.is at c.in_ok-choose-in-Choice.ensures.settles in
+    record {
+      comes = comes_in_choice (station_of f c.choose.new.self (sink c.choose.new.out))
+          (continues_same (point_of f c.args.self.now (sink c.args.out.now))) waiting settled.0;
+      past = settled.1;
+    }
+
+-- what is left where it ends
+pub returns-in_err-turn-clause-spends : goal.returns-in_err-turn-clause-spends
+returns-in_err-turn-clause-spends g c = λ plain.
+    let next = record c.work.self { printer = c.turn.new.printer; visits = c.turn.new.visits } in
+    spends_error_as (left_of g.N.Walk.tree next) c.from_residual.result c.from_residual.ensures.0
+    (path_spends c.work.invariant.path plain (c.work.invariant.spends plain) c.in_err-turn.ensures.spends)
+
+pub returns-in-Failed-clause-spends : goal.returns-in-Failed-clause-spends
+returns-in-Failed-clause-spends g c =
+    λ plain. spends_all (path_spends c.work.invariant.path plain (c.work.invariant.spends plain)
+    (rw c.in-Failed.is at c.in_ok-turn.ensures.spends))
+
+pub returns-in-Shift-clause-spends : goal.returns-in-Shift-clause-spends
+returns-in-Shift-clause-spends g c = λ plain.
+    let f = g.N.Walk.tree in
+    let next = record c.work.self { printer = c.turn.new.printer; visits = c.turn.new.visits } in
+    none_seconds f next (ap (all_held f) c.work.invariant.none)
+    (path_spends c.work.invariant.path plain (c.work.invariant.spends plain) (rw c.in-Shift.is at c.in_ok-turn.ensures.spends))
+
+pub returns-in_err-choose-in-Choice-clause-spends : goal.returns-in_err-choose-in-Choice-clause-spends
+returns-in_err-choose-in-Choice-clause-spends g c = λ plain.
+    let f = g.N.Walk.tree in
+    let l : 0 < length (tasks_of f c.work.self.printer) = omega (arith, c.work-test.true, c.len.ensures) in
+    let waiting = path_to_choice f c.in-Choice.choice c.work.invariant.path l
+    (rw c.in-Choice.is at c.in_ok-turn.ensures.advances) (omega arith) in
+    spends_error_as (left_of f c.choose.new.self) c.from_residual-in_err-choose-in-Choice.result
+    c.from_residual-in_err-choose-in-Choice.ensures.0
+    (waiting_spends waiting plain
+    (path_spends c.work.invariant.path plain (c.work.invariant.spends plain) (rw c.in-Choice.is at c.in_ok-turn.ensures.spends))
+    c.in_err-choose-in-Choice.ensures.spends)
+
+pub returns-in-Shift-2-clause-spends : goal.returns-in-Shift-2-clause-spends
+returns-in-Shift-2-clause-spends g c = λ plain.
+    let f = g.N.Walk.tree in
+    let l : 0 < length (tasks_of f c.work.self.printer) = omega (arith, c.work-test.true, c.len.ensures) in
+    let waiting = path_to_choice f c.in-Choice.choice c.work.invariant.path l
+    (rw c.in-Choice.is at c.in_ok-turn.ensures.advances) (omega arith) in
+    waiting_spends waiting plain
+    (path_spends c.work.invariant.path plain (c.work.invariant.spends plain) (rw c.in-Choice.is at c.in_ok-turn.ensures.spends))
+    c.in_ok-choose-in-Choice.ensures.spends
+
+pub returns-clause-spends : goal.returns-clause-spends
+returns-clause-spends g c = λ plain.
+    none_seconds g.N.Walk.tree c.work.self (ap (all_held g.N.Walk.tree) c.work.invariant.none) (c.work.invariant.spends plain)

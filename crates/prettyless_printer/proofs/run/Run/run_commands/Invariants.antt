@@ -1,0 +1,24 @@
+use Rattle.std.proofs.Common.{◌≡◌, []}
+use Rattle.prettyless_step.specs.Steps.{work}
+use Rattle.prettyless_probe.specs.Sums.{IsSummed}
+use Rattle.prettyless_step.specs.Printing.{tasks_of}
+use Rattle.prettyless_printer.specs.Points.{point_of, seen, standing, state_at}
+use Rattle.prettyless_printer.specs.Visits.{Plain}
+use Rattle.prettyless_printer.specs.Spending.{Spends, left_alone, rule_of}
+use Rattle.prettyless_printer.specs.Paths.{Path, run_of}
+use Rattle.prettyless_printer.proofs.run.Run.run_commands.Given as goal
+
+abbrev pub invariant-work : goal.invariant-work
+invariant-work g l =
+    let f = g.N.Walk.tree in
+    let sink = seen g.W.Render.bytes g.W.Render.failures g.W.Render.lender in
+    record {
+      path : Path (run_of (point_of f l.fn.self (sink l.fn.out))) (point_of f l.self (sink l.out));
+      none : l.self.trials.open.items ≡ [];
+      spends : Plain (standing f l.fn.self.printer) →
+          Spends (rule_of g.N.Walk.HAS_SUMMARIES l.limit) (left_alone f l.fn.self) (left_alone f l.self);
+      summed : IsSummed g.N.Walk.HAS_SUMMARIES f l.self.printer.commands;
+    }
+
+abbrev pub decreases-work : goal.decreases-work
+decreases-work g l = work (tasks_of g.N.Walk.tree l.self.printer) (state_at (standing g.N.Walk.tree l.self.printer))

@@ -1,0 +1,119 @@
+use Rattle.std.proofs.Common.{◌∙◌, sym}
+use Rattle.std.proofs.lemmas.Result.{err_from_is_err_and}
+use Rattle.prettyless_step.proofs.Queues.{length_some, length_none}
+use Rattle.prettyless_printer.specs.Points.{point_of, seen, standing, state_at}
+use Rattle.prettyless_printer.specs.Runs.{station_of}
+use Rattle.prettyless_printer.specs.Spending.{left_of}
+use Rattle.prettyless_printer.specs.declared.answer.RunResult.TheVariants as run_result
+use Rattle.prettyless_printer.proofs.Standings.{pending_stands}
+use Rattle.prettyless_printer.proofs.Shifts.{continues_same, continues_then, continues_to_end, none_open, stops_then, round_continues}
+use Rattle.prettyless_printer.proofs.Shifts.{round_work_falls, round_stopped, work_ends, work_stopped}
+use Rattle.prettyless_printer.proofs.Spending.{spends_same, spends_then}
+use Rattle.prettyless_printer.proofs.OpenSpending.{spends_error_as}
+use Rattle.prettyless_printer.proofs.RunSpending.{nothing_pending}
+use Rattle.prettyless_printer.proofs.run.Run.run_to_end.Goals as goal
+
+pub rounds-init : goal.rounds-init
+rounds-init g c = record {
+  continues = continues_same (point_of g.N.Walk.tree c.args.self.now
+      (seen g.W.Render.bytes g.W.Render.failures g.W.Render.lender c.args.out.now));
+  none = c.requires.none;
+  spends = λ plain. spends_same _ _;
+  summed = c.requires.summed;
+}
+
+-- the commands ended in an error
+pub returns-in_err-run_commands-clause-runs : goal.returns-in_err-run_commands-clause-runs
+returns-in_err-run_commands-clause-runs g c =
+    let residual = err_from_is_err_and c.from_residual.result c.from_residual.ensures.1 in
+    rw (residual.1, residual.2)
+    let fails = g.W.Render.document_errors c.run_commands.new.out in
+    continues_to_end fails _ c.rounds.invariant.continues (work_stopped fails _ c.in_err-run_commands.ensures.works)
+
+-- they are not all laid: probes are past the limit
+pub returns-in-Shift-clause-runs : goal.returns-in-Shift-clause-runs
+returns-in-Shift-clause-runs g c =
+    let f = g.N.Walk.tree in
+    let sink = seen g.W.Render.bytes g.W.Render.failures g.W.Render.lender in
+    stops_then c.args.limit (point_of f c.args.self.now (sink c.args.out.now)) (point_of f c.rounds.self (sink c.rounds.out))
+    (station_of f c.run_commands.new.self (sink c.run_commands.new.out)) c.rounds.invariant.continues
+    (rw c.in-Shift.is at c.in_ok-run_commands.ensures.works)
+
+-- nothing waits
+pub returns-then-not-is_pending-clause-runs : goal.returns-then-not-is_pending-clause-runs
+returns-then-not-is_pending-clause-runs g c =
+    let f = g.N.Walk.tree in
+    let p = c.run_commands.new.self.printer in
+    let fails = g.W.Render.document_errors c.run_commands.new.out in
+    let none = length_none (state_at (standing f p)).pending
+    (sym (pending_stands f p) ∙ sym c.is_pending.ensures ∙ c.if-not-is_pending.true) in
+    continues_to_end fails _ c.rounds.invariant.continues
+    (work_ends fails run_result.Finished run_result.Finished ((rw c.in-Finished.is at c.in_ok-run_commands.ensures.works).1) none)
+
+-- what waits is laid next
+pub rounds-smaller : goal.rounds-smaller
+rounds-smaller g c =
+    let f = g.N.Walk.tree in
+    let p = c.run_commands.new.self.printer in
+    let fails = g.W.Render.document_errors c.run_commands.new.out in
+    let some = length_some (state_at (standing f p)).pending
+    (sym (pending_stands f p) ∙ sym c.is_pending.ensures ∙ c.if-not-is_pending.false) in
+    round_work_falls fails run_result.Finished tt ((rw c.in-Finished.is at c.in_ok-run_commands.ensures.works).1)
+    c.in_ok-flush_end-in-Finished.ensures.flushes some
+
+pub rounds-preserved : goal.rounds-preserved
+rounds-preserved g c =
+    let f = g.N.Walk.tree in
+    let p = c.run_commands.new.self.printer in
+    let fails = g.W.Render.document_errors c.run_commands.new.out in
+    let some = length_some (state_at (standing f p)).pending
+    (sym (pending_stands f p) ∙ sym c.is_pending.ensures ∙ c.if-not-is_pending.false) in
+    record {
+      continues = continues_then c.rounds.invariant.continues
+          (round_continues fails run_result.Finished tt ((rw c.in-Finished.is at c.in_ok-run_commands.ensures.works).1)
+          c.in_ok-flush_end-in-Finished.ensures.flushes some);
+      none = none_open f c.run_commands.new.self.trials.open.items (rw c.in-Finished.is at c.in_ok-run_commands.ensures.works).0;
+      spends = λ plain. absurd (nothing_pending fails run_result.Finished c.rounds.invariant.continues plain
+          ((rw c.in-Finished.is at c.in_ok-run_commands.ensures.works).1) some);
+      summed = c.in_ok-flush_end-in-Finished.ensures.summed;
+    }
+
+-- its gap ended in an error
+pub returns-in_err-flush_end-in-Finished-clause-runs : goal.returns-in_err-flush_end-in-Finished-clause-runs
+returns-in_err-flush_end-in-Finished-clause-runs g c =
+    let residual = err_from_is_err_and c.from_residual-in_err-flush_end-in-Finished.result
+    c.from_residual-in_err-flush_end-in-Finished.ensures.1 in
+    rw (residual.1, residual.2)
+    let f = g.N.Walk.tree in
+    let p = c.run_commands.new.self.printer in
+    let fails = g.W.Render.document_errors c.flush_end.new.out in
+    let some = length_some (state_at (standing f p)).pending
+    (sym (pending_stands f p) ∙ sym c.is_pending.ensures ∙ c.if-not-is_pending.false) in
+    continues_to_end fails _ c.rounds.invariant.continues
+    (round_stopped fails (g.W.Render.document_errors c.run_commands.new.out) run_result.Finished _
+    ((rw c.in-Finished.is at c.in_ok-run_commands.ensures.works).1) c.in_err-flush_end-in-Finished.ensures.flushes some)
+
+-- what is left where it ends
+pub returns-in_err-run_commands-clause-spends : goal.returns-in_err-run_commands-clause-spends
+returns-in_err-run_commands-clause-spends g c = λ plain.
+    spends_error_as (left_of g.N.Walk.tree c.run_commands.new.self) c.from_residual.result c.from_residual.ensures.0
+    (spends_then (c.rounds.invariant.spends plain)
+    (c.in_err-run_commands.ensures.spends (c.rounds.invariant.continues.at_most plain).0))
+
+pub returns-in-Shift-clause-spends : goal.returns-in-Shift-clause-spends
+returns-in-Shift-clause-spends g c = λ plain. spends_then (c.rounds.invariant.spends plain)
+    (c.in_ok-run_commands.ensures.spends (c.rounds.invariant.continues.at_most plain).0)
+
+pub returns-then-not-is_pending-clause-spends : goal.returns-then-not-is_pending-clause-spends
+returns-then-not-is_pending-clause-spends g c = λ plain. spends_then (c.rounds.invariant.spends plain)
+    (c.in_ok-run_commands.ensures.spends (c.rounds.invariant.continues.at_most plain).0)
+
+pub returns-in_err-flush_end-in-Finished-clause-spends : goal.returns-in_err-flush_end-in-Finished-clause-spends
+returns-in_err-flush_end-in-Finished-clause-spends g c = λ plain.
+    let f = g.N.Walk.tree in
+    let p = c.run_commands.new.self.printer in
+    let fails = g.W.Render.document_errors c.run_commands.new.out in
+    let some = length_some (state_at (standing f p)).pending
+    (sym (pending_stands f p) ∙ sym c.is_pending.ensures ∙ c.if-not-is_pending.false) in
+    absurd (nothing_pending fails run_result.Finished c.rounds.invariant.continues plain
+    ((rw c.in-Finished.is at c.in_ok-run_commands.ensures.works).1) some)
