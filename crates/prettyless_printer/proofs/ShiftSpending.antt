@@ -10,10 +10,9 @@ use Rattle.prettyless_printer.specs.declared.run.Run.{Run}
 use Rattle.prettyless_printer.specs.declared.shift_policy.ShiftPolicy.{ShiftPolicy}
 use Rattle.prettyless_printer.specs.Points.{Standing}
 use Rattle.prettyless_printer.specs.ShiftPolicy.{probe_limit}
-use Rattle.prettyless_printer.specs.Open.{Held, seconds}
+use Rattle.prettyless_printer.specs.Open.{Held, run_nodes, seconds}
 use Rattle.prettyless_printer.specs.Linear.{IsLinearBound, IsLinearStart}
 use Rattle.prettyless_printer.specs.Spending.{AllHaveSummaries, Left, Spends, left, left_nodes, left_of, none_left, rule_of}
-use Rattle.prettyless_printer.specs.Storing.{run_nodes}
 
 -- How far a run has come before a shift, from n nodes: what is left allows for two visits of a node each.
 pub record Within (n : ℕ) (v : Visits) (l : Left) : Type 0 where
@@ -79,30 +78,36 @@ queue_none : {N : Type 0} (f : N → Tree) (xs : List N) → trees f xs ≡ [] �
 queue_none {N} f [] h = refl
 queue_none {N} f (x ∷ xs) h = absurd (omega (arith, ap length h))
 
--- where no table was made, what is left has more nodes than there was room for, if there was any
-pub no_room : {N : Type 0} (f : N → Tree) (r : Run N) (room n : ℕ) {v : Visits} → Within n v (left_of f r) → n ≤ 4294967294
-    → (0 < room → min room 4294967294 < run_nodes f r) → 0 < room → room < n
-no_room f r room n within small large some =
-    omega (arith, within.left, small, large some, queue_none f r.printer.queue.nodes.items within.queue)
+-- A run has come this far before a round, in which a table has this room.
+pub record Round {N : Type 0} (f : N → Tree) (n room : ℕ) (v : Visits) (g : ShiftPolicy) (r : Run N) : Type 0 where
+  pub within : Within n v (left_of f r)
+  pub next : g.next_try ≤ max n room
+  pub start : g.start ≡ v
 
-room_within : (room n : ℕ) → (0 < room → room < n) → room ≤ n
-room_within zero n less = omega arith
-room_within (suc k) n less = omega (arith, less (omega arith))
+-- No table is made of what is left, and it can have its nodes: there are more than there is room for, if there is any.
+pub record NoTable {N : Type 0} (f : N → Tree) (n room : ℕ) (r : Run N) : Type 0 where
+  pub size : n ≤ 4294967294
+  pub large : 0 < room → min room 4294967294 < run_nodes f r
 
-pub no_more_room : {N : Type 0} (f : N → Tree) (r : Run N) (room n : ℕ) {v : Visits} → Within n v (left_of f r) → n ≤ 4294967294
-    → (0 < room → min room 4294967294 < run_nodes f r) → room ≤ n
-no_more_room f r room n within small large = room_within room n (no_room f r room n within small large)
+module _ {N : Type 0} {f : N → Tree} {n room : ℕ} {v : Visits} {g : ShiftPolicy} {r : Run N} (h : Round f n room v g r)
+    (k : NoTable f n room r) where
+  no_room : 0 < room → room < n
+  no_room some = omega (arith, h.within.left, k.size, k.large some, queue_none f r.printer.queue.nodes.items h.within.queue)
 
--- and the run, which nothing has changed, goes on to the limit
-pub goes_on_without : {N : Type 0} (f : N → Tree) (has : Bool) (g : ShiftPolicy) (limit room n : ℕ) {v : Visits} {r q : Run N} {b : Left}
-    → q ≡ r → Within n v (left_of f r) → n ≤ 4294967294 → (0 < room → min room 4294967294 < run_nodes f r) →
-    g.next_try ≤ max n room → g.start ≡ v → limit ≡ probe_limit g q.visits → Spends (rule_of has limit) (left_of f q) b → Within n v b
-goes_on_without {N} f has g limit room n {v} {r} {q} same within small large next start is spends =
-    within_goes has g limit is start (omega (arith, next, no_more_room f r room n within small large))
-    (subst (λ (x : Run N). Within n v (left_of f x)) (sym same) within) spends
+  -- the next one is tried where probes have visited more than there are nodes at most
+  pub next_within : g.next_try ≤ n
+  next_within = next_below room h.next no_room
+    where
+      next_below : (m : ℕ) → g.next_try ≤ max n m → (0 < m → m < n) → g.next_try ≤ n
+      next_below zero next less = omega (arith, next)
+      next_below (suc m) next less = omega (arith, next, less (omega arith))
 
--- a table that had room for all nodes at first was made
-pub always_room : {N : Type 0} (f : N → Tree) (r : Run N) {room first n : ℕ} {v : Visits} → room ≡ first → 0 < first → n ≤ first
-    → Within n v (left_of f r) → n ≤ 4294967294 → (0 < room → min room 4294967294 < run_nodes f r) → ⊥
-always_room f r {room} {first} {n} same some all within small large =
-    omega (arith, same, all, no_room f r room n within small large (omega (arith, same, some)))
+  -- the run, which nothing has changed, goes on to the limit
+  pub goes_on_without : {q : Run N} {b : Left} (has : Bool) (limit : ℕ) → q ≡ r → limit ≡ probe_limit g q.visits
+      → Spends (rule_of has limit) (left_of f q) b → Within n v b
+  goes_on_without has limit same is spends =
+      within_goes has g limit is h.start next_within (subst (λ (x : Run N). Within n v (left_of f x)) (sym same) h.within) spends
+
+  -- so there was no room for all nodes
+  pub always_room : {first : ℕ} → room ≡ first → 0 < first → n ≤ first → ⊥
+  always_room same some all = omega (arith, same, all, no_room (omega (arith, same, some)))

@@ -4,6 +4,7 @@ use Rattle.std.specs.declared.alloc.AllocError.{AllocError}
 use Rattle.prettyless_sink.specs.Sink.{known}
 use Rattle.prettyless_sink.specs.declared.error.RenderError.{RenderError}
 use Rattle.prettyless_sink.specs.declared.error.RenderError.TheVariants.{Memory}
+use Rattle.prettyless_sink.specs.declared.render.Render.{Ghosts}
 use Rattle.prettyless_sink.specs.declared.visits.Visits.{Visits}
 use Rattle.prettyless_model.specs.declared.options.RenderOptions.{RenderOptions}
 use Rattle.prettyless_model.specs.Layout.{State, bytes_in, layout}
@@ -14,7 +15,7 @@ use Rattle.prettyless_step.specs.declared.printer.Printer.{Printer}
 use Rattle.prettyless_table.specs.Shift.{IsShifted}
 use Rattle.prettyless_printer.specs.declared.buffer.Buffer.{Buffer}
 use Rattle.prettyless_printer.specs.declared.run.Run.{Run}
-use Rattle.prettyless_printer.specs.Points.{Point, Seen, Standing, buffer_seen, point_of, standing}
+use Rattle.prettyless_printer.specs.Points.{Point, Seen, Standing, buffer_seen, point_of, seen_by, standing}
 use Rattle.prettyless_printer.specs.Visits.{suffix_depths}
 use Rattle.prettyless_printer.specs.Linear.{IsLinearBound, IsLinear, IsLinearStart}
 use Rattle.prettyless_printer.specs.Open.{Held, all_held, held_of, seconds}
@@ -49,14 +50,15 @@ spends_over {r} {w} {z} {b} same h =
     subst (λ (x : Station). Spends r (left x.point.printer (seconds x.held) x.point.visits) b) same h
 
 -- nothing has changed
-pub comes_still : {N : Type 0} (f : N → Tree) (a : Point) {r q : Run N} {s t : Seen} → t ≡ s → q ≡ r → RunReaches a (station_of f r s)
-    → RunReaches a (station_of f q t)
-comes_still {N} f a {r} {q} {s} {t} sink run comes =
-    subst (λ (x : Seen). RunReaches a (station_of f q x)) (sym sink)
-    (subst (λ (x : Run N). RunReaches a (station_of f x s)) (sym run) comes)
+pub comes_still : {N S E : Type 0} (f : N → Tree) (g : Ghosts S E) (a : Point) {r q : Run N} {s t : S} → (t ≡ s) × (q ≡ r)
+    → RunReaches a (station_of f r (seen_by g s)) → RunReaches a (station_of f q (seen_by g t))
+comes_still {N} {S} f g a {r} {q} {s} {t} same comes =
+    subst (λ (x : S). RunReaches a (station_of f q (seen_by g x))) (sym same.0)
+    (subst (λ (x : Run N). RunReaches a (station_of f x (seen_by g s))) (sym same.1) comes)
 
 -- a run begins without open trials
-pub comes_first : {N : Type 0} (f : N → Tree) (r : Run N) (s : Seen) → r.trials.open.items ≡ [] → RunReaches (point_of f r s) (station_of f r s)
+pub comes_first : {N : Type 0} (f : N → Tree) (r : Run N) (s : Seen) → r.trials.open.items ≡ []
+    → RunReaches (point_of f r s) (station_of f r s)
 comes_first f r s none = comes_alone (point_of f r s) (station_of f r s) (ap (all_held f) none) (continues_same (point_of f r s))
 
 -- a document that a table bounds

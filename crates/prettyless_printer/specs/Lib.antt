@@ -12,4 +12,3 @@ pub mod Turns
 pub mod Renders
 pub mod Paths
 pub mod Runs
-pub mod Storing

@@ -1,11 +1,14 @@
 -- Open trials, each inside the one before it: how they stand in one another, over trees, and what becomes of them.
-use Rattle.std.specs.Prelude.{◌≡◌, ℕ, List, [], ◌∷◌, ◌++◌, map, Result, Ok, Err, IsSome, true, false}
+use Rattle.std.specs.Prelude.{◌≡◌, ℕ, ◌+◌, List, [], ◌∷◌, ◌++◌, map, Result, Ok, Err, IsSome, true, false}
+use Rattle.std.specs.List.{sum_by}
 use Rattle.std.specs.Str.{IsUtf8}
 use Rattle.prettyless_sink.specs.Sink.{known}
-use Rattle.prettyless_model.specs.Tree.{Tree}
+use Rattle.prettyless_model.specs.Tree.{Tree, size}
 use Rattle.prettyless_model.specs.Layout.{in_trial}
 use Rattle.prettyless_model.specs.declared.mode.Mode.TheVariants.{Break}
 use Rattle.prettyless_probe.specs.Stack.{make_task}
+use Rattle.prettyless_table.specs.Owners.{documents_left}
+use Rattle.prettyless_table.specs.Shift.{nodes_left}
 use Rattle.prettyless_printer.specs.declared.trial.Mark.{Mark}
 use Rattle.prettyless_printer.specs.declared.trial.OpenTrial.{OpenTrial}
 use Rattle.prettyless_printer.specs.declared.run.Run.{Run}
@@ -36,6 +39,13 @@ held_of f r = all_held f r.trials.open.items
 -- their second branches
 abbrev pub seconds : List Held → List Tree
 seconds us = map (λ u. u.second) us
+
+-- how many nodes a run has left, with the second branches of its open trials, and in which documents
+abbrev pub run_nodes : {N : Type 0} → (N → Tree) → Run N → ℕ
+run_nodes f r = nodes_left f r.printer + sum_by size (seconds (held_of f r))
+
+abbrev pub run_documents : {N : Type 0} → (N → Tree) → Run N → List Tree
+run_documents f r = documents_left f r.printer ++ seconds (held_of f r)
 
 -- A mark was set at a point whose bytes are known, and are text.
 pub record Marked (m : Mark) (a : Point) : Type 0 where

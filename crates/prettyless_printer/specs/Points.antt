@@ -2,6 +2,7 @@
 use Rattle.std.specs.Prelude.{◌≡◌, ℕ, Bool, List, ◌++◌, drop, Option, None, Some}
 use Rattle.std.specs.Borrow.{GName}
 use Rattle.std.specs.String.{string_bytes}
+use Rattle.prettyless_sink.specs.declared.render.Render.{Ghosts}
 use Rattle.prettyless_sink.specs.declared.visits.Visits.{Visits}
 use Rattle.prettyless_model.specs.declared.column.Column.{Column}
 use Rattle.prettyless_model.specs.declared.options.RenderOptions.{RenderOptions}
@@ -61,6 +62,9 @@ pub record Seen : Type 0 where
 -- a sink, seen by the ghost members of its type
 abbrev pub seen : {S : Type 0} → (S → Option (List ℕ)) → (S → ℕ) → (S → Option GName) → S → Seen
 seen bytes failures lender out = record { bytes = bytes out; failures = failures out; lender = lender out }
+
+abbrev pub seen_by : {S E : Type 0} → Ghosts S E → S → Seen
+seen_by g out = seen g.bytes g.failures g.lender out
 
 -- the buffer of trials as a sink
 abbrev pub buffer_seen : Buffer → Seen

@@ -28,16 +28,12 @@ station_at p s v us b = record { point = point_at p s v; held = us; buffer = b }
 abbrev pub station_of : {N : Type 0} → (N → Tree) → Run N → Seen → Station
 station_of f r s = station_at (standing f r.printer) s r.visits (held_of f r) (buffer_seen r.buffer)
 
--- where the open trials are, whose sink is the buffer
-abbrev pub inner_point : Station → Point
-inner_point z = point_at z.point.printer z.buffer z.point.visits
-
 -- A choice between two branches at an indent came next at a, and trials are open from there to a station. They write to a buffer, which
 -- was empty, and nothing was written to the sink.
 pub record InChoice (i : ℕ) (x y : Tree) (a : Point) (z : Station) : Type 0 where
   pub before : Seen
   pub empty : known before.bytes ≡ []
-  pub trials : Open (make_trial (point_at a.printer before a.visits) i x) y z.held (inner_point z)
+  pub trials : Open (make_trial (point_at a.printer before a.visits) i x) y z.held (point_at z.point.printer z.buffer z.point.visits)
   pub sink : z.point.sink ≡ a.sink
 
 -- a choice that came next at a was made, or its trials are still open

@@ -4,7 +4,7 @@ ghost use Rattle.std.specs.Prelude.{◌≡◌, ◌<◌, ◌^◌, ◌-◌, [], �
 ghost use Rattle.prettyless_model.specs.Tree.{Tree};
 ghost use Rattle.prettyless_step.specs.Printing.{tasks_of};
 ghost use Rattle.prettyless_probe.specs.Sums.{IsSummed};
-ghost use Rattle.prettyless_printer.specs.Points.{Point, point_of, seen, standing};
+ghost use Rattle.prettyless_printer.specs.Points.{Point, point_of, seen_by, standing};
 ghost use Rattle.prettyless_printer.specs.Renders.{FlushesEnd, RunsToEnd};
 ghost use Rattle.prettyless_printer.specs.Visits.{Plain};
 ghost use Rattle.prettyless_printer.specs.Spending.{IsPlainChoice, Spends, SpendsAs, left_alone, left_choice, left_of, none_left, rule_of};
@@ -46,7 +46,7 @@ fn flush_end<N: Walk, W: Render>(
     requires none { tasks_of N.tree printer.old ≡ [] }
     requires summed { IsSummed N.HAS_SUMMARIES N.tree printer.old.commands }
     ensures flushes { FlushesEnd (standing N.tree printer.old) (standing N.tree printer.new)
-        (seen W.bytes W.failures W.lender out.old) (seen W.bytes W.failures W.lender out.new) result }
+        (seen_by W.Render out.old) (seen_by W.Render out.new) result }
     ensures summed { OnOk result (IsSummed N.HAS_SUMMARIES N.tree printer.new.commands) }
 {
     match take_pending(printer, 0, Mode::Break) {
@@ -66,13 +66,12 @@ impl<N: Walk> Run<N> {
         limit: u64,
     ) -> Result<RunResult, RenderError<W::Error>>
         requires open { (i : ℕ) × (x : Tree) × (y : Tree) × (a : Point)
-            × InChoice i x y a (station_of N.tree self.old (seen W.bytes W.failures W.lender out.old)) }
+            × InChoice i x y a (station_of N.tree self.old (seen_by W.Render out.old)) }
         requires summed { IsSummed N.HAS_SUMMARIES N.tree self.old.printer.commands }
-        ensures settles { (i : ℕ) (x y : Tree) (a : Point)
-            → InChoice i x y a (station_of N.tree self.old (seen W.bytes W.failures W.lender out.old))
-            → ChoosesOrStops limit i x y a (station_of N.tree self.new (seen W.bytes W.failures W.lender out.new)) result }
-        ensures spends { (i : ℕ) (x y : Tree) (a : Point)
-            → InChoice i x y a (station_of N.tree self.old (seen W.bytes W.failures W.lender out.old)) → IsPlainChoice a.printer x y
+        ensures settles { (i : ℕ) (x y : Tree) (a : Point) → InChoice i x y a (station_of N.tree self.old (seen_by W.Render out.old))
+            → ChoosesOrStops limit i x y a (station_of N.tree self.new (seen_by W.Render out.new)) result }
+        ensures spends { (i : ℕ) (x y : Tree) (a : Point) → InChoice i x y a (station_of N.tree self.old (seen_by W.Render out.old))
+            → IsPlainChoice a.printer x y
             → SpendsAs (rule_of N.HAS_SUMMARIES limit) (left_of N.tree self.old) (left_of N.tree self.new) result }
         ensures summed { OnOk result (IsSummed N.HAS_SUMMARIES N.tree self.new.printer.commands) }
     {
@@ -97,8 +96,7 @@ impl<N: Walk> Run<N> {
         requires none { self.old.trials.open.items ≡ [] }
         requires summed { IsSummed N.HAS_SUMMARIES N.tree self.old.printer.commands }
         ensures settles { ChoosesOrStops limit choice.indent (N.tree choice.first) (N.tree choice.second)
-            (point_of N.tree self.old (seen W.bytes W.failures W.lender out.old))
-            (station_of N.tree self.new (seen W.bytes W.failures W.lender out.new)) result }
+            (point_of N.tree self.old (seen_by W.Render out.old)) (station_of N.tree self.new (seen_by W.Render out.new)) result }
         ensures spends { IsPlainChoice (standing N.tree self.old.printer) (N.tree choice.first) (N.tree choice.second)
             → SpendsAs (rule_of N.HAS_SUMMARIES limit)
             (left_choice choice.indent (N.tree choice.first) (N.tree choice.second) (standing N.tree self.old.printer) self.old.visits)
@@ -121,9 +119,8 @@ impl<N: Walk> Run<N> {
     ) -> Result<RunResult, RenderError<W::Error>>
         requires none { self.old.trials.open.items ≡ [] }
         requires summed { IsSummed N.HAS_SUMMARIES N.tree self.old.printer.commands }
-        ensures works { RunsCommandsOrStops (W.document_errors out.new) limit
-            (point_of N.tree self.old (seen W.bytes W.failures W.lender out.old))
-            (station_of N.tree self.new (seen W.bytes W.failures W.lender out.new)) result }
+        ensures works { RunsCommandsOrStops (W.document_errors out.new) limit (point_of N.tree self.old (seen_by W.Render out.old))
+            (station_of N.tree self.new (seen_by W.Render out.new)) result }
         ensures spends { Plain (standing N.tree self.old.printer)
             → SpendsAs (rule_of N.HAS_SUMMARIES limit) (left_alone N.tree self.old) (left_of N.tree self.new) result }
         ensures summed { OnOk result (IsSummed N.HAS_SUMMARIES N.tree self.new.printer.commands) }
@@ -151,9 +148,8 @@ impl<N: Walk> Run<N> {
     ) -> Result<RunResult, RenderError<W::Error>>
         requires none { self.old.trials.open.items ≡ [] }
         requires summed { IsSummed N.HAS_SUMMARIES N.tree self.old.printer.commands }
-        ensures runs { RunsToEndOrStops (W.document_errors out.new) limit
-            (point_of N.tree self.old (seen W.bytes W.failures W.lender out.old))
-            (station_of N.tree self.new (seen W.bytes W.failures W.lender out.new)) result }
+        ensures runs { RunsToEndOrStops (W.document_errors out.new) limit (point_of N.tree self.old (seen_by W.Render out.old))
+            (station_of N.tree self.new (seen_by W.Render out.new)) result }
         ensures spends { Plain (standing N.tree self.old.printer)
             → SpendsAs (rule_of N.HAS_SUMMARIES limit) (left_alone N.tree self.old) (left_of N.tree self.new) result }
         ensures summed { OnOk result (IsSummed N.HAS_SUMMARIES N.tree self.new.printer.commands) }
@@ -178,13 +174,11 @@ impl<N: Walk> Run<N> {
         out: &mut W,
         limit: u64,
     ) -> Result<RunResult, RenderError<W::Error>>
-        requires comes { (a : Point) × RunReaches a (station_of N.tree self.old (seen W.bytes W.failures W.lender out.old)) }
+        requires comes { (a : Point) × RunReaches a (station_of N.tree self.old (seen_by W.Render out.old)) }
         requires summed { IsSummed N.HAS_SUMMARIES N.tree self.old.printer.commands }
-        ensures runs { (a : Point) → RunReaches a (station_of N.tree self.old (seen W.bytes W.failures W.lender out.old))
-            → RunsToEndOrStops (W.document_errors out.new) limit a
-            (station_of N.tree self.new (seen W.bytes W.failures W.lender out.new)) result }
-        ensures spends { (a : Point) → RunReaches a (station_of N.tree self.old (seen W.bytes W.failures W.lender out.old))
-            → Plain a.printer
+        ensures runs { (a : Point) → RunReaches a (station_of N.tree self.old (seen_by W.Render out.old))
+            → RunsToEndOrStops (W.document_errors out.new) limit a (station_of N.tree self.new (seen_by W.Render out.new)) result }
+        ensures spends { (a : Point) → RunReaches a (station_of N.tree self.old (seen_by W.Render out.old)) → Plain a.printer
             → SpendsAs (rule_of N.HAS_SUMMARIES limit) (left_of N.tree self.old) (left_of N.tree self.new) result }
         ensures summed { OnOk result (IsSummed N.HAS_SUMMARIES N.tree self.new.printer.commands) }
     {
@@ -199,12 +193,11 @@ impl<N: Walk> Run<N> {
 
     /// Runs to the end, however much probes visit.
     pub(crate) fn finish<W: Render>(&mut self, out: &mut W) -> Result<(), RenderError<W::Error>>
-        requires comes { (a : Point) × RunReaches a (station_of N.tree self.old (seen W.bytes W.failures W.lender out.old)) }
+        requires comes { (a : Point) × RunReaches a (station_of N.tree self.old (seen_by W.Render out.old)) }
         requires summed { IsSummed N.HAS_SUMMARIES N.tree self.old.printer.commands }
-        ensures ends { (a : Point) → RunReaches a (station_of N.tree self.old (seen W.bytes W.failures W.lender out.old))
-            → RunsToEnd (W.document_errors out.new) a (point_of N.tree self.new (seen W.bytes W.failures W.lender out.new)) result }
-        ensures spends { (a : Point) → RunReaches a (station_of N.tree self.old (seen W.bytes W.failures W.lender out.old))
-            → Plain a.printer
+        ensures ends { (a : Point) → RunReaches a (station_of N.tree self.old (seen_by W.Render out.old))
+            → RunsToEnd (W.document_errors out.new) a (point_of N.tree self.new (seen_by W.Render out.new)) result }
+        ensures spends { (a : Point) → RunReaches a (station_of N.tree self.old (seen_by W.Render out.old)) → Plain a.printer
             → Spends (rule_of N.HAS_SUMMARIES (2 ^ 64 - 1)) (left_of N.tree self.old) (none_left self.new.visits) }
     {
         match self.resume(out, u64::MAX)? {

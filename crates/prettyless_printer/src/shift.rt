@@ -7,13 +7,12 @@ ghost use Rattle.prettyless_probe.specs.Sums.{IsSummed};
 ghost use Rattle.prettyless_table.specs.Cells.{CellsGrow, CellsAreSound};
 ghost use Rattle.prettyless_table.specs.Owners.{Stand, all_owners};
 ghost use Rattle.prettyless_table.specs.Shift.{AreNodes};
-ghost use Rattle.prettyless_printer.specs.Points.{Point, point_of, seen, standing};
-ghost use Rattle.prettyless_printer.specs.Open.{all_held, seconds};
+ghost use Rattle.prettyless_printer.specs.Points.{Point, point_of, seen_by, standing};
+ghost use Rattle.prettyless_printer.specs.Open.{all_held, run_documents, run_nodes, seconds};
 ghost use Rattle.prettyless_printer.specs.Renders.{EndsAnywhere};
 ghost use Rattle.prettyless_printer.specs.Runs.{RunReaches, station_of};
 ghost use Rattle.prettyless_printer.specs.Linear.{IsLinearBound, IsLinearStart};
 ghost use Rattle.prettyless_printer.specs.Spending.{EndsOverTable, left_of};
-ghost use Rattle.prettyless_printer.specs.Storing.{run_documents, run_nodes};
 
 use crate::answer::RunResult;
 use crate::buffer::Buffer;
@@ -109,11 +108,9 @@ impl<N: Walk> Run<N> {
         out: &mut W,
         room: u64,
     ) -> Result<Option<Result<(), RenderError<W::Error>>>, AllocError>
-        requires comes { (a : Point) × RunReaches a (station_of N.tree self.old (seen W.bytes W.failures W.lender out.old)) }
-        ensures ended { IfOk result (λ o. IfSome o (λ r. (a : Point)
-            → RunReaches a (station_of N.tree self.old (seen W.bytes W.failures W.lender out.old))
-            → EndsOverTable (W.document_errors out.new) a (left_of N.tree self.old)
-            (seen W.bytes W.failures W.lender out.new) self.new.visits r)) }
+        requires comes { (a : Point) × RunReaches a (station_of N.tree self.old (seen_by W.Render out.old)) }
+        ensures ended { IfOk result (λ o. IfSome o (λ r. (a : Point) → RunReaches a (station_of N.tree self.old (seen_by W.Render out.old))
+            → EndsOverTable (W.document_errors out.new) a (left_of N.tree self.old) (seen_by W.Render out.new) self.new.visits r)) }
         ensures large { IfOk result (λ o. IfNone o (min room 4294967294 < run_nodes N.tree self.old)) }
         ensures none { IfOk result (λ o. IfNone o ((out.new ≡ out.old) × (self.new ≡ self.old))) }
         ensures refused { OnErr result ((out.new ≡ out.old) × (self.new ≡ self.old)) }
@@ -150,11 +147,9 @@ impl<N: Walk> Run<N> {
         room: u64,
         refused: &mut u64,
     ) -> Option<Result<(), RenderError<W::Error>>>
-        requires comes { (a : Point) × RunReaches a (station_of N.tree self.old (seen W.bytes W.failures W.lender out.old)) }
-        ensures ended { IfSome result (λ r. (a : Point)
-            → RunReaches a (station_of N.tree self.old (seen W.bytes W.failures W.lender out.old))
-            → EndsOverTable (W.document_errors out.new) a (left_of N.tree self.old)
-            (seen W.bytes W.failures W.lender out.new) self.new.visits r) }
+        requires comes { (a : Point) × RunReaches a (station_of N.tree self.old (seen_by W.Render out.old)) }
+        ensures ended { IfSome result (λ r. (a : Point) → RunReaches a (station_of N.tree self.old (seen_by W.Render out.old))
+            → EndsOverTable (W.document_errors out.new) a (left_of N.tree self.old) (seen_by W.Render out.new) self.new.visits r) }
         ensures large { IfNone result (0 < room → refused.new ≡ 0 → min room 4294967294 < run_nodes N.tree self.old) }
         ensures none { IfNone result ((out.new ≡ out.old) × (self.new ≡ self.old)) }
         ensures rises { refused.old ≤ refused.new }
@@ -182,9 +177,8 @@ impl<N: Walk> Run<N> {
     ) -> Result<(), RenderError<W::Error>>
         requires none { self.old.trials.open.items ≡ [] }
         requires summed { IsSummed N.HAS_SUMMARIES N.tree self.old.printer.commands }
-        ensures ends { EndsAnywhere (W.document_errors out.new)
-            (point_of N.tree self.old (seen W.bytes W.failures W.lender out.old))
-            (seen W.bytes W.failures W.lender out.new) self.new.visits result }
+        ensures ends { EndsAnywhere (W.document_errors out.new) (point_of N.tree self.old (seen_by W.Render out.old))
+            (seen_by W.Render out.new) self.new.visits result }
         ensures rises { refused.old ≤ refused.new }
         ensures few { IsLinearStart (standing N.tree self.old.printer) → refused.new ≡ 0
             → IsLinearBound 16 1000 (nodes (tasks_of N.tree self.old.printer)) self.old.visits self.new.visits }

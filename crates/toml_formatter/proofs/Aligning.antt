@@ -36,7 +36,7 @@ unfolding cut_toml
 no_return x alone e = let same : cut_toml between (13 ∷ []) ≡ (13 ∷ []) ∷ [] = subst (λ (y : ℕ). cut_toml between (y ∷ []) ≡ (y ∷ []) ∷ []) e alone in cc
 
 -- what follows a gap and a lexeme does not matter
-follows_gap : (s g t rest other : List ℕ) → cut_toml between t ≡ t ∷ [] → MayFollow s (g ++ (t ++ rest)) → MayFollow s (g ++ (t ++ other))
+pub follows_gap : (s g t rest other : List ℕ) → cut_toml between t ≡ t ∷ [] → MayFollow s (g ++ (t ++ rest)) → MayFollow s (g ++ (t ++ other))
 unfolding cut_toml
 follows_gap s (x ∷ y ∷ g) t rest other alone h = two_bytes s x y (g ++ (t ++ rest)) (g ++ (t ++ other)) h
 follows_gap s (x ∷ []) [] rest other alone h = absurd (cc)
@@ -143,7 +143,7 @@ moved_bytes st bytes ss = toml_put_together (aligned_from st (toml_spaced_as byt
 module _ (bytes g t rest : List ℕ) (ss : List (List ℕ)) (gap : IsTomlGap g) (is : bytes ≡ g ++ (t ++ rest))
     (alone : cut_toml between t ≡ t ∷ []) where
   -- the first of them after its gap
-  spaced_next : toml_spaced_as bytes (t ∷ ss) ≡ after_toml_gap g t ∷ toml_spaced_as rest ss
+  pub spaced_next : toml_spaced_as bytes (t ∷ ss) ≡ after_toml_gap g t ∷ toml_spaced_as rest ss
   spaced_next = ap (λ (b : List ℕ). toml_spaced_as b (t ∷ ss)) is ∙ first_spaced g t rest ss gap alone
 
 -- what may follow a lexeme may so where comments are moved

@@ -25,7 +25,7 @@ abbrev at_blank : Bool → Stage → Stage
 at_blank false b = b
 at_blank true b = record b { place = shown.with_gap AnyLine LineEnd b.place }
 
-abbrev blank_items : Bool → List Item
+abbrev pub blank_items : Bool → List Item
 blank_items false = []
 blank_items true = ended ∷ []
 

@@ -8,3 +8,7 @@ pub mod LineLemmas
 pub mod Trims
 pub mod Values
 pub mod Aligning
+pub mod InTurn
+pub mod Walking
+pub mod SheetLemmas
+pub mod PressLemmas

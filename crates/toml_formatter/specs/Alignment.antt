@@ -98,6 +98,10 @@ aligned_from st (p ∷ ps) = after_toml_gap (moved_gap (moved_by st p ps) p.gap)
 abbrev pub with_aligned_comments : List ℕ → List ℕ
 with_aligned_comments bytes = toml_put_together (aligned_from first_standing (toml_spaced_lexemes bytes))
 
+-- where that is asked for
+abbrev pub comments_as : Bool → List ℕ → List ℕ
+comments_as align bytes = if align then with_aligned_comments bytes else bytes
+
 -- where the style aligns them
 abbrev pub with_comments_as : Style → List ℕ → List ℕ
-with_comments_as style bytes = if style.align then with_aligned_comments bytes else bytes
+with_comments_as style bytes = comments_as style.align bytes

@@ -10,3 +10,6 @@ pub mod Ahead
 pub mod Alignment
 pub mod Documents
 pub mod Drafts
+pub mod Walks
+pub mod Sheets
+pub mod Presses

@@ -1,12 +1,12 @@
 //! Comments at the ends of lines that follow each other, one below the other.
-ghost use Rattle.std.specs.Prelude.{◌≡◌, ◌++◌, IfOk, OnOk};
+ghost use Rattle.std.specs.Prelude.{◌≡◌, ◌++◌, OnOk};
 ghost use Rattle.std.specs.String.{string_bytes};
 ghost use Rattle.prettyless_model.specs.Spaces.{spaces};
 ghost use Rattle.toml_formatter.specs.Alignment.{moved_gap, with_aligned_comments};
 
 use crate::standing::START;
 use prettyless_model::spaces::some_spaces;
-use std::alloc::{AllocError, Global};
+use std::alloc::AllocError;
 use toml_lexemes::SpacedLexer;
 
 /// Adds so many spaces to a text.
@@ -35,20 +35,19 @@ fn push_gap(text: &mut String, gap: &str, moved: Option<usize>) -> Result<(), Al
     }
 }
 
-/// The layout, with comments at the ends of lines that follow each other one below the other.
+/// Adds a layout to a text, with comments at the ends of lines that follow each other one below the other.
 ///
 /// `AllocError` where memory is refused.
-pub(crate) fn aligned(alloc: Global, layout: &str) -> Result<String, AllocError>
-    ensures { IfOk result (λ made. string_bytes made ≡ with_aligned_comments layout.now) }
+pub(crate) fn push_aligned(text: &mut String, layout: &str) -> Result<(), AllocError>
+    ensures { OnOk result (string_bytes text.new ≡ string_bytes text.old ++ with_aligned_comments layout.now) }
 {
-    let mut text = String::with_capacity(alloc, layout.len())?;
     let mut lexemes = SpacedLexer::new(layout);
     let mut standing = START;
     while let Some(found) = lexemes.next() {
         let step = standing.past(found, &lexemes);
-        push_gap(&mut text, found.gap, step.1)?;
+        push_gap(text, found.gap, step.1)?;
         text.push_str(found.text())?;
         standing = step.0;
     }
-    Ok(text)
+    Ok(())
 }

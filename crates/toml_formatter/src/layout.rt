@@ -1,24 +1,17 @@
 //! The layout of a text.
 ghost use Rattle.std.specs.Prelude.{◌≡◌, false, IfOk, IfErr, OnOk};
 ghost use Rattle.std.specs.String.{string_bytes};
-ghost use Rattle.prettyless.specs.Content.{HasContent};
-ghost use Rattle.prettyless.specs.Layout.{Whole, layout};
 ghost use Rattle.toml_lexemes.specs.Lexemes.{toml_lexemes_of};
 ghost use Rattle.toml_grammar.specs.Nesting.{is_too_deep};
-ghost use Rattle.toml_formatter.specs.Errors.{IsFormatMemory, IsRefusalOf};
-ghost use Rattle.toml_formatter.specs.Formats.{HasTomlOptions, IsFormattedToml, IsLaidToml, IsLaidTomlDocument};
-ghost use Rattle.toml_formatter.specs.Formats.{IsRefusedToml, IsTomlLayout, ShowsToml};
+ghost use Rattle.toml_formatter.specs.Errors.{IsRefusalOf};
+ghost use Rattle.toml_formatter.specs.Formats.{HasTomlOptions, IsFormattedToml, IsLaidToml, IsRefusedToml, IsTomlLayout};
 ghost use Rattle.toml_lexemes.specs.Sound.{AreSound};
 
-use crate::alignment::aligned;
-use crate::document::document;
+use crate::document::{Press, lay_text};
 use crate::error::FormatError;
 use crate::style::Style;
-use bumpalo::Bump;
-use prettyless::{
-    Arena, DocPlace, DocPtr, IndentationPolicy, LineEnding, RefDoc, RenderError, RenderOptions,
-};
-use std::alloc::{AllocError, Global};
+use prettyless::{IndentationPolicy, LineEnding, RenderOptions};
+use std::alloc::Global;
 use toml_grammar::{fault_of, law_closed_strings};
 use toml_lexemes::{Lexeme, SpacedLexer};
 
@@ -45,59 +38,7 @@ fn options(text: &str, style: Style) -> RenderOptions
         .with_indentation_policy(IndentationPolicy::Deferred)
 }
 
-/// The layout of a document.
-fn rendered<'a, P: DocPtr<'a>>(
-    document: &P,
-    alloc: Global,
-    options: RenderOptions,
-) -> Result<String, FormatError>
-    ensures ok { IfOk result (λ made. HasContent (P.tree document.now) (string_bytes made)) }
-    ensures laid { IfOk result (λ made. layout options (P.tree document.now) ≡ Whole (string_bytes made)) }
-    ensures err { IfErr result IsFormatMemory }
-{
-    let mut layout = String::new(alloc);
-    let doc = document.doc();
-    match doc.render_fmt_with(alloc, options, &mut layout) {
-        Ok(()) => Ok(layout),
-        Err(RenderError::Memory(error)) => Err(FormatError::Memory(error)),
-        // A `String` fails only where memory is refused, and a document of lexemes has nothing that fails.
-        Err(RenderError::Sink(_) | RenderError::Document(_)) => {
-            Err(FormatError::Memory(AllocError))
-        }
-    }
-}
-
-/// The layout of a text in this style, with its document in this arena.
-fn laid<'a>(
-    arena: &'a Arena<'a>,
-    alloc: Global,
-    text: &'a str,
-    style: Style,
-) -> Result<String, FormatError>
-    requires { AreSound (toml_lexemes_of text.now) }
-    ensures ok { IfOk result (λ layout. ShowsToml text.now (string_bytes layout)) }
-    ensures laid { IfOk result (λ layout. IsLaidTomlDocument style text.now (string_bytes layout)) }
-    ensures shallow { OnOk result (is_too_deep text.now ≡ false) }
-    ensures err { IfErr result (IsRefusalOf text.now) }
-{
-    let document = document(arena, text, style)?;
-    rendered(&document, alloc, options(text, style))
-}
-
-/// The same, with the document in an arena of its own.
-fn laid_apart(alloc: Global, text: &str, style: Style) -> Result<String, FormatError>
-    requires { AreSound (toml_lexemes_of text.now) }
-    ensures ok { IfOk result (λ layout. ShowsToml text.now (string_bytes layout)) }
-    ensures laid { IfOk result (λ layout. IsLaidTomlDocument style text.now (string_bytes layout)) }
-    ensures shallow { OnOk result (is_too_deep text.now ≡ false) }
-    ensures err { IfErr result (IsRefusalOf text.now) }
-{
-    let bump = Bump::new(alloc);
-    let arena = Arena::new(alloc, &bump);
-    laid(&arena, alloc, text, style)
-}
-
-/// The same, with comments aligned where the style says so.
+/// The layout of a text in this style.
 fn laid_out(alloc: Global, text: &str, style: Style) -> Result<String, FormatError>
     requires { AreSound (toml_lexemes_of text.now) }
     ensures ok { IfOk result (λ layout. IsTomlLayout text.now (string_bytes layout)) }
@@ -105,11 +46,12 @@ fn laid_out(alloc: Global, text: &str, style: Style) -> Result<String, FormatErr
     ensures shallow { OnOk result (is_too_deep text.now ≡ false) }
     ensures err { IfErr result (IsRefusalOf text.now) }
 {
-    let layout = laid_apart(alloc, text, style)?;
-    if style.align {
-        return Ok(aligned(alloc, layout.as_str())?);
-    }
-    Ok(layout)
+    lay_text(&Press {
+        text,
+        alloc,
+        style,
+        options: options(text, style),
+    })
 }
 
 /// The layout of a TOML text in this style. It is TOML too, and has the same statements: the same lexemes in the same

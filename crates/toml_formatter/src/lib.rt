@@ -12,10 +12,12 @@ mod line;
 mod list;
 mod numbers;
 mod parts;
+mod sheet;
 mod standing;
 mod statement;
 mod style;
 mod trim;
+mod walk;
 
 pub use error::FormatError;
 pub use layout::formatted;

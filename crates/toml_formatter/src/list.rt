@@ -89,12 +89,12 @@ fn unclosed<'a>(
 /// The document of the value that begins with this lexeme, and goes on with those that come next. So many brackets may be
 /// in one another in it.
 #[cycle(value)]
-pub(crate) fn value<'a>(
+pub(crate) fn value<'a, 't: 'a>(
     setting: &Setting<'a>,
-    lexemes: &mut Ahead<'a>,
+    lexemes: &mut Ahead<'t>,
     around: Kind,
     is_first: bool,
-    first: Lexeme<'a>,
+    first: Lexeme<'t>,
     depth: usize,
 ) -> Result<RefDoc<'a>, FormatError>
     requires named { HasTomlKind first }
@@ -123,9 +123,9 @@ pub(crate) fn value<'a>(
 
 /// What is in brackets, up to what closes them.
 #[cycle(value)]
-fn inside<'a>(
+fn inside<'a, 't: 'a>(
     setting: &Setting<'a>,
-    lexemes: &mut Ahead<'a>,
+    lexemes: &mut Ahead<'t>,
     kind: Kind,
     depth: usize,
 ) -> Result<Line<'a>, FormatError>
@@ -147,12 +147,12 @@ fn inside<'a>(
 
 /// The line with this lexeme in brackets taken.
 #[cycle(value)]
-fn with_next<'a>(
+fn with_next<'a, 't: 'a>(
     setting: &Setting<'a>,
-    lexemes: &mut Ahead<'a>,
+    lexemes: &mut Ahead<'t>,
     kind: Kind,
     line: Line<'a>,
-    next: Lexeme<'a>,
+    next: Lexeme<'t>,
     depth: usize,
 ) -> Result<Line<'a>, FormatError>
     requires kind { is_nested kind ≡ true }

@@ -52,14 +52,14 @@ fn columns(text: &str) -> usize
     }
 }
 
-fn is_comment_lexeme(found: Spaced<'_>) -> bool
+pub(crate) fn is_comment_lexeme(found: Spaced<'_>) -> bool
     requires { IsNamedIf found.lexeme }
     ensures { result ≡ spec.is_comment_lexeme (spaced_of found.entry) }
 {
     matches!(found.lexeme, Some(Lexeme::Comment(_)))
 }
 
-fn ends_the_line(found: Spaced<'_>) -> bool
+pub(crate) fn ends_the_line(found: Spaced<'_>) -> bool
     requires { IsNamedIf found.lexeme }
     ensures { result ≡ spec.ends_the_line (spaced_of found.entry) }
 {

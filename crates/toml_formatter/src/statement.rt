@@ -49,10 +49,10 @@ fn with_closing<'a>(
 }
 
 /// The line that begins with this lexeme outside of brackets, which is no line end.
-fn begun<'a>(
+fn begun<'a, 't: 'a>(
     setting: &Setting<'a>,
-    lexemes: &mut Ahead<'a>,
-    first: Lexeme<'a>,
+    lexemes: &mut Ahead<'t>,
+    first: Lexeme<'t>,
 ) -> Result<Line<'a>, FormatError>
     requires named { HasTomlKind first }
     requires sound { IsSound (toml_text_of first) lexemes.old }
@@ -81,11 +81,11 @@ fn begun<'a>(
 }
 
 /// The line with this lexeme outside of brackets taken, which is no line end.
-fn with_next<'a>(
+fn with_next<'a, 't: 'a>(
     setting: &Setting<'a>,
-    lexemes: &mut Ahead<'a>,
+    lexemes: &mut Ahead<'t>,
     line: Line<'a>,
-    next: Lexeme<'a>,
+    next: Lexeme<'t>,
 ) -> Result<Line<'a>, FormatError>
     requires named { HasTomlKind next }
     requires sound { IsSound (toml_text_of next) lexemes.old }
@@ -118,10 +118,10 @@ fn with_next<'a>(
 }
 
 /// The document of the statement that begins with this lexeme, which is no line end, with the line end after it taken.
-pub(crate) fn statement<'a>(
+pub(crate) fn statement<'a, 't: 'a>(
     setting: &Setting<'a>,
-    lexemes: &mut Ahead<'a>,
-    first: Lexeme<'a>,
+    lexemes: &mut Ahead<'t>,
+    first: Lexeme<'t>,
 ) -> Result<RefDoc<'a>, FormatError>
     requires named { HasTomlKind first }
     requires sound { IsSound (toml_text_of first) lexemes.old }

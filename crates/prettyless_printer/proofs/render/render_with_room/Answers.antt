@@ -2,7 +2,7 @@ use Rattle.std.proofs.Common.{ap, arith, subst}
 use Rattle.prettyless_sink.specs.declared.visits.Visits.{Visits}
 use Rattle.prettyless_model.specs.Tree.{size}
 use Rattle.prettyless_probe.proofs.Sizes.{size_positive}
-use Rattle.prettyless_printer.specs.Points.{seen}
+use Rattle.prettyless_printer.specs.Points.{seen_by}
 use Rattle.prettyless_printer.specs.Linear.{IsLinearBound}
 use Rattle.prettyless_printer.specs.Renders.{Renders}
 use Rattle.prettyless_printer.proofs.Shifted.{begins_few, begins_linear, begins_small, begun_renders, refused_renders}
@@ -10,7 +10,7 @@ use Rattle.prettyless_printer.proofs.render.render_with_room.Goals as goal
 
 pub returns-in-Ok-clause-renders : goal.returns-in-Ok-clause-renders
 returns-in-Ok-clause-renders g c =
-    let see = seen g.W.Render.bytes g.W.Render.failures g.W.Render.lender in
+    let see = seen_by g.W.Render in
     let ran = c.run_with_shift-result in
     let fails = g.W.Render.document_errors ran.new.out in
     let before = c.in-Ok.ensures.visits in
@@ -32,4 +32,4 @@ returns-in-Ok-clause-twice g c = λ linear small none.
 pub returns-in-Err-clause-renders : goal.returns-in-Err-clause-renders
 returns-in-Err-clause-renders g c =
     refused_renders (g.W.Render.document_errors c.args.out.now) c.args.options (g.N.Walk.tree c.args.node)
-    (seen g.W.Render.bytes g.W.Render.failures g.W.Render.lender c.args.out.now) c.args.visits.now _
+    (seen_by g.W.Render c.args.out.now) c.args.visits.now _

@@ -2,7 +2,7 @@ use Rattle.std.proofs.Common.{ap, subst, sym}
 use Rattle.prettyless_probe.specs.Stack.{trees}
 use Rattle.prettyless_step.specs.declared.queue.Queue.{Queue}
 use Rattle.prettyless_printer.specs.declared.run.Run.{Run}
-use Rattle.prettyless_printer.specs.Points.{point_of, seen, standing}
+use Rattle.prettyless_printer.specs.Points.{point_of, seen_by, standing}
 use Rattle.prettyless_printer.specs.Open.{all_held}
 use Rattle.prettyless_printer.specs.Spending.{Spends, left_choice, left_of, rule_of}
 use Rattle.prettyless_printer.proofs.Choosing.{choice_opens}
@@ -19,7 +19,7 @@ resume_choice-requires-clause-open g c =
       choice.indent,
       f choice.first,
       f choice.second,
-      point_of f old (seen g.W.Render.bytes g.W.Render.failures g.W.Render.lender c.args.out.now),
+      point_of f old (seen_by g.W.Render c.args.out.now),
       choice_opens cleared c.open_trial.new.self (ap (all_held f) c.requires.none) c.clear.ensures.bytes c.open_trial.ensures.others
           c.in-Ok.ensures.held c.in-Ok.ensures.begun,
     )
@@ -31,7 +31,7 @@ returns-in-Ok-clause-settles g c =
     let cleared = record old { buffer = record old.buffer { text = c.clear.new.self } } in
     let choice = c.args.choice in
     c.resume_choice.ensures.settles choice.indent (f choice.first) (f choice.second)
-    (point_of f old (seen g.W.Render.bytes g.W.Render.failures g.W.Render.lender c.args.out.now))
+    (point_of f old (seen_by g.W.Render c.args.out.now))
     (choice_opens cleared c.open_trial.new.self (ap (all_held f) c.requires.none) c.clear.ensures.bytes c.open_trial.ensures.others
     c.in-Ok.ensures.held c.in-Ok.ensures.begun)
 
@@ -48,6 +48,6 @@ returns-in-Ok-clause-spends g c = λ plain.
     (subst (λ (r : Run _). Spends (rule_of g.N.Walk.HAS_SUMMARIES c.args.limit) before (left_of f r)) (sym c.open_trial.ensures.others)
     (opens_spends none c.in-Ok.ensures.held c.in-Ok.ensures.begun (ap (λ (z : Queue _). trees f z.nodes.items) c.open_trial.ensures.queue)))
     (c.resume_choice.ensures.spends choice.indent (f choice.first) (f choice.second)
-    (point_of f old (seen g.W.Render.bytes g.W.Render.failures g.W.Render.lender c.args.out.now))
+    (point_of f old (seen_by g.W.Render c.args.out.now))
     (choice_opens cleared c.open_trial.new.self none c.clear.ensures.bytes c.open_trial.ensures.others
     c.in-Ok.ensures.held c.in-Ok.ensures.begun) plain)

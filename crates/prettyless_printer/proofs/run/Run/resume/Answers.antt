@@ -1,7 +1,7 @@
 use Rattle.std.proofs.Common.{ap}
 use Rattle.std.proofs.lemmas.List.{nil_from_length}
 use Rattle.std.proofs.lemmas.Result.{err_from_is_err_and}
-use Rattle.prettyless_printer.specs.Points.{point_of, seen}
+use Rattle.prettyless_printer.specs.Points.{point_of, seen_by}
 use Rattle.prettyless_printer.specs.Open.{all_held}
 use Rattle.prettyless_printer.specs.Runs.{station_of}
 use Rattle.prettyless_printer.specs.Spending.{left_of}
@@ -15,7 +15,7 @@ use Rattle.prettyless_printer.proofs.run.Run.resume.Goals as goal
 pub returns-then-is_empty-clause-runs : goal.returns-then-is_empty-clause-runs
 returns-then-is_empty-clause-runs g c = λ a h.
     let f = g.N.Walk.tree in
-    let sink = seen g.W.Render.bytes g.W.Render.failures g.W.Render.lender in
+    let sink = seen_by g.W.Render in
     let fails = g.W.Render.document_errors c.run_to_end.new.out in
     let old = c.args.self.now in
     let none = ap (all_held f) (nil_from_length old.trials.open.items (c.is_empty.ensures.none c.if-is_empty.true)) in
@@ -29,8 +29,7 @@ resume_choice-requires-clause-open g c =
     let f = g.N.Walk.tree in
     let old = c.args.self.now in
     let some = some_open f old.trials.open.items (c.is_empty.ensures.some c.if-is_empty.false) in
-    let came = came_in_choice c.requires.comes.0
-    (station_of f old (seen g.W.Render.bytes g.W.Render.failures g.W.Render.lender c.args.out.now)) some c.requires.comes.1 in
+    let came = came_in_choice c.requires.comes.0 (station_of f old (seen_by g.W.Render c.args.out.now)) some c.requires.comes.1 in
     (came.indent, came.first, came.second, came.at, came.choice)
 
 -- it ended in an error
@@ -43,8 +42,7 @@ returns-in_err-resume_choice-clause-runs g c =
     let old = c.args.self.now in
     let fails = g.W.Render.document_errors c.resume_choice.new.out in
     let some = some_open f old.trials.open.items (c.is_empty.ensures.some c.if-is_empty.false) in
-    let came = came_in_choice a
-    (station_of f old (seen g.W.Render.bytes g.W.Render.failures g.W.Render.lender c.args.out.now)) some h in
+    let came = came_in_choice a (station_of f old (seen_by g.W.Render c.args.out.now)) some h in
     choice_stopped fails came.indent came.first came.second c.in_err-resume_choice.field-0.0 came.continues came.waiting
     (c.in_err-resume_choice.ensures.settles came.indent came.first came.second came.at came.choice)
 
@@ -54,8 +52,7 @@ run_to_end-requires-in-Finished-clause-none g c =
     let f = g.N.Walk.tree in
     let old = c.args.self.now in
     let some = some_open f old.trials.open.items (c.is_empty.ensures.some c.if-is_empty.false) in
-    let came = came_in_choice c.requires.comes.0
-    (station_of f old (seen g.W.Render.bytes g.W.Render.failures g.W.Render.lender c.args.out.now)) some c.requires.comes.1 in
+    let came = came_in_choice c.requires.comes.0 (station_of f old (seen_by g.W.Render c.args.out.now)) some c.requires.comes.1 in
     none_open f c.resume_choice.new.self.trials.open.items
     ((rw c.in-Finished.is at c.in_ok-resume_choice.ensures.settles) came.indent came.first came.second came.at came.choice).0
 
@@ -63,7 +60,7 @@ pub returns-in-Finished-clause-runs : goal.returns-in-Finished-clause-runs
 returns-in-Finished-clause-runs g c = λ a h.
     let f = g.N.Walk.tree in
     let old = c.args.self.now in
-    let sink = seen g.W.Render.bytes g.W.Render.failures g.W.Render.lender in
+    let sink = seen_by g.W.Render in
     let fails = g.W.Render.document_errors c.run_to_end-in-Finished.new.out in
     let some = some_open f old.trials.open.items (c.is_empty.ensures.some c.if-is_empty.false) in
     let came = came_in_choice a (station_of f old (sink c.args.out.now)) some h in
@@ -77,7 +74,7 @@ pub returns-in-Shift-clause-runs : goal.returns-in-Shift-clause-runs
 returns-in-Shift-clause-runs g c = λ a h.
     let f = g.N.Walk.tree in
     let old = c.args.self.now in
-    let sink = seen g.W.Render.bytes g.W.Render.failures g.W.Render.lender in
+    let sink = seen_by g.W.Render in
     let some = some_open f old.trials.open.items (c.is_empty.ensures.some c.if-is_empty.false) in
     let came = came_in_choice a (station_of f old (sink c.args.out.now)) some h in
     let settled = (rw c.in-Shift.is at c.in_ok-resume_choice.ensures.settles) came.indent came.first came.second came.at came.choice in
@@ -92,8 +89,7 @@ returns-in_err-resume_choice-clause-spends g c = λ a h plain.
     let f = g.N.Walk.tree in
     let old = c.args.self.now in
     let some = some_open f old.trials.open.items (c.is_empty.ensures.some c.if-is_empty.false) in
-    let came = came_in_choice a
-    (station_of f old (seen g.W.Render.bytes g.W.Render.failures g.W.Render.lender c.args.out.now)) some h in
+    let came = came_in_choice a (station_of f old (seen_by g.W.Render c.args.out.now)) some h in
     spends_error_as (left_of f c.resume_choice.new.self) c.from_residual.result c.from_residual.ensures.0
     (c.in_err-resume_choice.ensures.spends came.indent came.first came.second came.at came.choice (came_plain came plain))
 
@@ -102,8 +98,7 @@ returns-in-Shift-clause-spends g c = λ a h plain.
     let f = g.N.Walk.tree in
     let old = c.args.self.now in
     let some = some_open f old.trials.open.items (c.is_empty.ensures.some c.if-is_empty.false) in
-    let came = came_in_choice a
-    (station_of f old (seen g.W.Render.bytes g.W.Render.failures g.W.Render.lender c.args.out.now)) some h in
+    let came = came_in_choice a (station_of f old (seen_by g.W.Render c.args.out.now)) some h in
     c.in_ok-resume_choice.ensures.spends came.indent came.first came.second came.at came.choice (came_plain came plain)
 
 pub returns-in-Finished-clause-spends : goal.returns-in-Finished-clause-spends
@@ -111,8 +106,7 @@ returns-in-Finished-clause-spends g c = λ a h plain.
     let f = g.N.Walk.tree in
     let old = c.args.self.now in
     let some = some_open f old.trials.open.items (c.is_empty.ensures.some c.if-is_empty.false) in
-    let came = came_in_choice a
-    (station_of f old (seen g.W.Render.bytes g.W.Render.failures g.W.Render.lender c.args.out.now)) some h in
+    let came = came_in_choice a (station_of f old (seen_by g.W.Render c.args.out.now)) some h in
     let settled = (rw c.in-Finished.is at c.in_ok-resume_choice.ensures.settles) came.indent came.first came.second came.at came.choice in
     let continues = choice_continues came.indent came.first came.second came.continues came.waiting settled.1 in
     spends_then_as _ c.run_to_end-in-Finished.result

@@ -2,7 +2,7 @@ use Rattle.std.proofs.Common.{◌<◌, ◌≤◌, length, ap, arith}
 use Rattle.std.proofs.lemmas.Result.{err_from_is_err_and}
 use Rattle.prettyless_step.specs.Printing.{tasks_of}
 use Rattle.prettyless_printer.specs.declared.answer.RunResult.TheVariants as run_result
-use Rattle.prettyless_printer.specs.Points.{point_of, seen}
+use Rattle.prettyless_printer.specs.Points.{point_of, seen_by}
 use Rattle.prettyless_printer.proofs.PathSteps.{run_begins, run_ends, run_error, goes_on, stops, path_to_choice, breaks_off}
 use Rattle.prettyless_printer.proofs.PathSteps.{fails_there}
 use Rattle.prettyless_printer.proofs.PathSteps.{error_anyhow}
@@ -19,8 +19,7 @@ use Rattle.prettyless_printer.proofs.run.Run.run_commands.Goals as goal
 
 pub work-init : goal.work-init
 work-init g c = record {
-  path = run_begins (point_of g.N.Walk.tree c.args.self.now
-      (seen g.W.Render.bytes g.W.Render.failures g.W.Render.lender c.args.out.now));
+  path = run_begins (point_of g.N.Walk.tree c.args.self.now (seen_by g.W.Render c.args.out.now));
   none = c.requires.none;
   spends = λ plain. spends_same _ _;
   summed = c.requires.summed;
@@ -67,7 +66,7 @@ pub work-preserved : goal.work-preserved
 work-preserved g c =
     let f = g.N.Walk.tree in
     let l : 0 < length (tasks_of f c.work.self.printer) = omega (arith, c.work-test.true, c.len.ensures) in
-    let start = point_of f c.args.self.now (seen g.W.Render.bytes g.W.Render.failures g.W.Render.lender c.args.out.now) in
+    let start = point_of f c.args.self.now (seen_by g.W.Render c.args.out.now) in
     let turned = rw c.in-Choice.is at c.in_ok-turn.ensures.advances in
     let waiting = path_to_choice f c.in-Choice.choice c.work.invariant.path l turned (omega arith) in
     let settled = rw c.in-Finished.is at c.in_ok-choose-in-Choice.ensures.settles in
@@ -90,7 +89,7 @@ pub returns-in-Shift-clause-works : goal.returns-in-Shift-clause-works
 returns-in-Shift-clause-works g c =
     let f = g.N.Walk.tree in
     let l : 0 < length (tasks_of f c.work.self.printer) = omega (arith, c.work-test.true, c.len.ensures) in
-    let sink = seen g.W.Render.bytes g.W.Render.failures g.W.Render.lender in
+    let sink = seen_by g.W.Render in
     let start = point_of f c.args.self.now (sink c.args.out.now) in
     let next = record c.work.self { printer = c.turn.new.printer; visits = c.turn.new.visits } in
     let turned = rw c.in-Shift.is at c.in_ok-turn.ensures.advances in
@@ -130,7 +129,7 @@ returns-in_err-choose-in-Choice-clause-works g c =
     (rw c.in-Choice.is at c.in_ok-turn.ensures.advances) (omega arith) in
     run_error fails e
     (error_anyhow fails e (c.in_err-choose-in-Choice.ensures.settles.runs
-    (run_of (point_of f c.args.self.now (seen g.W.Render.bytes g.W.Render.failures g.W.Render.lender c.args.out.now))) waiting))
+    (run_of (point_of f c.args.self.now (seen_by g.W.Render c.args.out.now))) waiting))
 
 pub returns-clause-works : goal.returns-clause-works
 returns-clause-works g c =
@@ -143,7 +142,7 @@ pub returns-in-Shift-2-clause-works : goal.returns-in-Shift-2-clause-works
 returns-in-Shift-2-clause-works g c =
     let f = g.N.Walk.tree in
     let l : 0 < length (tasks_of f c.work.self.printer) = omega (arith, c.work-test.true, c.len.ensures) in
-    let sink = seen g.W.Render.bytes g.W.Render.failures g.W.Render.lender in
+    let sink = seen_by g.W.Render in
     let waiting = path_to_choice f c.in-Choice.choice c.work.invariant.path l
     (rw c.in-Choice.is at c.in_ok-turn.ensures.advances) (omega arith) in
     let settled = rw c.in-Shift-2.is at c.in_ok-choose-in-Choice.ensures.settles in

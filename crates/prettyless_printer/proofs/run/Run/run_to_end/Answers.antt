@@ -1,7 +1,7 @@
 use Rattle.std.proofs.Common.{◌∙◌, sym}
 use Rattle.std.proofs.lemmas.Result.{err_from_is_err_and}
 use Rattle.prettyless_step.proofs.Queues.{length_some, length_none}
-use Rattle.prettyless_printer.specs.Points.{point_of, seen, standing, state_at}
+use Rattle.prettyless_printer.specs.Points.{point_of, seen_by, standing, state_at}
 use Rattle.prettyless_printer.specs.Runs.{station_of}
 use Rattle.prettyless_printer.specs.Spending.{left_of}
 use Rattle.prettyless_printer.specs.declared.answer.RunResult.TheVariants as run_result
@@ -15,8 +15,7 @@ use Rattle.prettyless_printer.proofs.run.Run.run_to_end.Goals as goal
 
 pub rounds-init : goal.rounds-init
 rounds-init g c = record {
-  continues = continues_same (point_of g.N.Walk.tree c.args.self.now
-      (seen g.W.Render.bytes g.W.Render.failures g.W.Render.lender c.args.out.now));
+  continues = continues_same (point_of g.N.Walk.tree c.args.self.now (seen_by g.W.Render c.args.out.now));
   none = c.requires.none;
   spends = λ plain. spends_same _ _;
   summed = c.requires.summed;
@@ -34,7 +33,7 @@ returns-in_err-run_commands-clause-runs g c =
 pub returns-in-Shift-clause-runs : goal.returns-in-Shift-clause-runs
 returns-in-Shift-clause-runs g c =
     let f = g.N.Walk.tree in
-    let sink = seen g.W.Render.bytes g.W.Render.failures g.W.Render.lender in
+    let sink = seen_by g.W.Render in
     stops_then c.args.limit (point_of f c.args.self.now (sink c.args.out.now)) (point_of f c.rounds.self (sink c.rounds.out))
     (station_of f c.run_commands.new.self (sink c.run_commands.new.out)) c.rounds.invariant.continues
     (rw c.in-Shift.is at c.in_ok-run_commands.ensures.works)

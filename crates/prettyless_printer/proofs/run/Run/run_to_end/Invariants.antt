@@ -2,7 +2,7 @@ use Rattle.std.proofs.Common.{◌≡◌, []}
 use Rattle.prettyless_step.specs.Printing.{tasks_of}
 use Rattle.prettyless_step.specs.Steps.{work}
 use Rattle.prettyless_probe.specs.Sums.{IsSummed}
-use Rattle.prettyless_printer.specs.Points.{point_of, seen, standing, state_at}
+use Rattle.prettyless_printer.specs.Points.{point_of, seen_by, standing, state_at}
 use Rattle.prettyless_printer.specs.Visits.{Plain}
 use Rattle.prettyless_printer.specs.Spending.{Spends, left_alone, rule_of}
 use Rattle.prettyless_printer.specs.Renders.{Continues}
@@ -11,7 +11,7 @@ use Rattle.prettyless_printer.proofs.run.Run.run_to_end.Given as goal
 abbrev pub invariant-rounds : goal.invariant-rounds
 invariant-rounds g l =
     let f = g.N.Walk.tree in
-    let sink = seen g.W.Render.bytes g.W.Render.failures g.W.Render.lender in
+    let sink = seen_by g.W.Render in
     record {
       continues : Continues (point_of f l.fn.self (sink l.fn.out)) (point_of f l.self (sink l.out));
       none : l.self.trials.open.items ≡ [];

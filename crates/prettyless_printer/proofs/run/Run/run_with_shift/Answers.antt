@@ -1,10 +1,8 @@
 use Rattle.std.proofs.Common.{◌≡◌, ◌≤◌, ◌-◌, ◌^◌, ◌∙◌, ℕ, true, ap, arith, refl, subst, sym}
 use Rattle.std.proofs.lemmas.Result.{err_from_is_err_and}
-use Rattle.prettyless_probe.specs.Stack.{nodes}
 use Rattle.prettyless_probe.specs.Sums.{IsSummed}
-use Rattle.prettyless_step.specs.Printing.{tasks_of}
 use Rattle.prettyless_printer.specs.declared.run.Run.{Run}
-use Rattle.prettyless_printer.specs.Points.{point_of, seen, standing}
+use Rattle.prettyless_printer.specs.Points.{point_of, seen_by, standing}
 use Rattle.prettyless_printer.specs.Open.{all_held, held_of}
 use Rattle.prettyless_printer.specs.declared.answer.RunResult.TheVariants as run_result
 use Rattle.prettyless_printer.specs.declared.shift_policy.ShiftPolicy.{ShiftPolicy}
@@ -12,7 +10,8 @@ use Rattle.prettyless_printer.specs.ShiftPolicy.{probe_limit}
 use Rattle.prettyless_printer.specs.Spending.{Spends, left_of, none_left, rule_of}
 use Rattle.prettyless_printer.proofs.Shifts.{error_anyhow, done_anyhow}
 use Rattle.prettyless_printer.proofs.Shifted.{comes_first, comes_still}
-use Rattle.prettyless_printer.proofs.ShiftSpending.{all_over, always_room, goes_on_without, no_more_room, within_few, within_over, within_start}
+use Rattle.prettyless_printer.proofs.ShiftSpending.{all_over, always_room, goes_on_without, next_within}
+use Rattle.prettyless_printer.proofs.ShiftSpending.{within_few, within_over, within_start}
 use Rattle.prettyless_printer.proofs.RunSpending.{from_none}
 use Rattle.prettyless_printer.proofs.run.Run.run_with_shift.Goals as goal
 
@@ -21,37 +20,35 @@ rounds-init g c =
     let f = g.N.Walk.tree in
     let old = c.args.self.now in
     let first = c.new-policy.ensures.first in
+    let start = ap (λ (x : ShiftPolicy). x.start) first in
     record {
-      comes = comes_first f old (seen g.W.Render.bytes g.W.Render.failures g.W.Render.lender c.args.out.now) c.requires.none;
-      start = ap (λ (x : ShiftPolicy). x.start) first;
+      comes = comes_first f old (seen_by g.W.Render c.args.out.now) c.requires.none;
       low = c.new-policy.ensures.within;
+      start = start;
       rises = omega arith;
-      next = λ linear none. omega (arith, ap (λ (x : ShiftPolicy). x.next_try) first);
-      within = λ linear none. within_start (standing f old.printer) (held_of f old) old.visits (ap (all_held f) c.requires.none) linear;
+      round = λ linear none. record {
+        within = within_start (standing f old.printer) (held_of f old) old.visits (ap (all_held f) c.requires.none) linear;
+        next = omega (arith, ap (λ (x : ShiftPolicy). x.next_try) first);
+        start = start;
+      };
       first = λ linear none some small. (refl, refl);
       summed = c.requires.summed;
     }
 
 pub try_shift-requires : goal.try_shift-requires
 try_shift-requires g c =
-    record {
-      comes = (
-        point_of g.N.Walk.tree c.args.self.now
-            (seen g.W.Render.bytes g.W.Render.failures g.W.Render.lender c.args.out.now),
-        c.rounds.invariant.comes,
-      );
-    }
+    record { comes = (point_of g.N.Walk.tree c.args.self.now (seen_by g.W.Render c.args.out.now), c.rounds.invariant.comes) }
 
 -- it goes on over a table to the end
 pub returns-in-Some-clause-ends : goal.returns-in-Some-clause-ends
 returns-in-Some-clause-ends g c =
-    (c.in-Some.ensures.ended (point_of g.N.Walk.tree c.args.self.now
-    (seen g.W.Render.bytes g.W.Render.failures g.W.Render.lender c.args.out.now)) c.rounds.invariant.comes).ends
+    let start = point_of g.N.Walk.tree c.args.self.now (seen_by g.W.Render c.args.out.now) in
+    (c.in-Some.ensures.ended start c.rounds.invariant.comes).ends
 
 pub returns-in-Some-clause-few : goal.returns-in-Some-clause-few
 returns-in-Some-clause-few g c = λ linear none.
-    let start = point_of g.N.Walk.tree c.args.self.now (seen g.W.Render.bytes g.W.Render.failures g.W.Render.lender c.args.out.now) in
-    within_over (c.rounds.invariant.within linear (omega (arith, none, c.try_shift.ensures.rises)))
+    let start = point_of g.N.Walk.tree c.args.self.now (seen_by g.W.Render c.args.out.now) in
+    within_over (c.rounds.invariant.round linear (omega (arith, none, c.try_shift.ensures.rises))).within
     ((c.in-Some.ensures.ended start c.rounds.invariant.comes).spends linear.plain) linear.size
 
 -- from the first node on
@@ -59,21 +56,18 @@ pub returns-in-Some-clause-twice : goal.returns-in-Some-clause-twice
 returns-in-Some-clause-twice g c = λ linear none some small.
     let f = g.N.Walk.tree in
     let old = c.args.self.now in
-    let start = point_of f old (seen g.W.Render.bytes g.W.Render.failures g.W.Render.lender c.args.out.now) in
     let first = c.rounds.invariant.first linear (omega (arith, none, c.try_shift.ensures.rises)) some small in
     all_over linear
     (from_none f old (ap (all_held f) c.requires.none)
     (subst (λ (r : Run _). Spends (rule_of true (2 ^ 64 - 1)) (left_of f r) (none_left c.try_shift.new.self.visits)) first.1
-    ((c.in-Some.ensures.ended start c.rounds.invariant.comes).spends linear.plain)))
+    ((c.in-Some.ensures.ended (point_of f old (seen_by g.W.Render c.args.out.now)) c.rounds.invariant.comes).spends linear.plain)))
 
 -- no table was made, and the run goes on as it was
 pub resume-requires-clause-comes : goal.resume-requires-clause-comes
 resume-requires-clause-comes g c =
     let f = g.N.Walk.tree in
-    let sink = seen g.W.Render.bytes g.W.Render.failures g.W.Render.lender in
-    let start = point_of f c.args.self.now (sink c.args.out.now) in
-    let same = c.in_default.ensures.none in
-    (start, comes_still f start (ap sink same.0) same.1 c.rounds.invariant.comes)
+    let start = point_of f c.args.self.now (seen_by g.W.Render c.args.out.now) in
+    (start, comes_still f g.W.Render start c.in_default.ensures.none c.rounds.invariant.comes)
 
 pub resume-requires-clause-summed : goal.resume-requires-clause-summed
 resume-requires-clause-summed g c =
@@ -84,33 +78,30 @@ resume-requires-clause-summed g c =
 pub returns-in-Finished-clause-ends : goal.returns-in-Finished-clause-ends
 returns-in-Finished-clause-ends g c =
     let f = g.N.Walk.tree in
-    let sink = seen g.W.Render.bytes g.W.Render.failures g.W.Render.lender in
-    let start = point_of f c.args.self.now (sink c.args.out.now) in
-    let same = c.in_default.ensures.none in (
+    let start = point_of f c.args.self.now (seen_by g.W.Render c.args.out.now) in
+    let comes = comes_still f g.W.Render start c.in_default.ensures.none c.rounds.invariant.comes in (
       standing f c.resume.new.self.printer,
       done_anyhow (g.W.Render.document_errors c.resume.new.out) run_result.Finished tt
-          ((rw c.in-Finished.is at c.in_ok-resume.ensures.runs) start
-          (comes_still f start (ap sink same.0) same.1 c.rounds.invariant.comes)),
+          ((rw c.in-Finished.is at c.in_ok-resume.ensures.runs) start comes),
     )
 
 pub returns-in-Finished-clause-few : goal.returns-in-Finished-clause-few
 returns-in-Finished-clause-few g c = λ linear none.
     let f = g.N.Walk.tree in
-    let sink = seen g.W.Render.bytes g.W.Render.failures g.W.Render.lender in
-    let start = point_of f c.args.self.now (sink c.args.out.now) in
-    let same = c.in_default.ensures.none in
-    let old : c.rounds.refused ≡ 0 = omega (arith, none, c.try_shift.ensures.rises) in
+    let start = point_of f c.args.self.now (seen_by g.W.Render c.args.out.now) in
+    let comes = comes_still f g.W.Render start c.in_default.ensures.none c.rounds.invariant.comes in
     within_few
-    (goes_on_without f g.N.Walk.HAS_SUMMARIES c.rounds.policy c.limit-limit.result c.rounds.room (nodes (tasks_of f c.args.self.now.printer))
-    same.1 (c.rounds.invariant.within linear old) linear.size (λ room. c.in_default.ensures.large room none)
-    (c.rounds.invariant.next linear old) c.rounds.invariant.start c.limit-limit.ensures
-    (c.in_ok-resume.ensures.spends start (comes_still f start (ap sink same.0) same.1 c.rounds.invariant.comes) linear.plain))
+    (goes_on_without (c.rounds.invariant.round linear (omega (arith, none, c.try_shift.ensures.rises)))
+    (record { size = linear.size; large = λ room. c.in_default.ensures.large room none })
+    g.N.Walk.HAS_SUMMARIES c.limit-limit.result c.in_default.ensures.none.1 c.limit-limit.ensures
+    (c.in_ok-resume.ensures.spends start comes linear.plain))
 
 pub returns-in-Finished-clause-twice : goal.returns-in-Finished-clause-twice
 returns-in-Finished-clause-twice g c = λ linear none some small.
     let old : c.rounds.refused ≡ 0 = omega (arith, none, c.try_shift.ensures.rises) in
-    absurd (always_room g.N.Walk.tree c.rounds.self (c.rounds.invariant.first linear old some small).0 some small
-    (c.rounds.invariant.within linear old) linear.size (λ room. c.in_default.ensures.large room none))
+    absurd (always_room (c.rounds.invariant.round linear old)
+    (record { size = linear.size; large = λ room. c.in_default.ensures.large room none })
+    (c.rounds.invariant.first linear old some small).0 some small)
 
 -- it ended in an error
 pub returns-in_err-resume-clause-ends : goal.returns-in_err-resume-clause-ends
@@ -118,78 +109,71 @@ returns-in_err-resume-clause-ends g c =
     let residual = err_from_is_err_and c.from_residual.result c.from_residual.ensures.1 in
     rw (residual.1, residual.2)
     let f = g.N.Walk.tree in
-    let sink = seen g.W.Render.bytes g.W.Render.failures g.W.Render.lender in
-    let start = point_of f c.args.self.now (sink c.args.out.now) in
-    let same = c.in_default.ensures.none in (
+    let start = point_of f c.args.self.now (seen_by g.W.Render c.args.out.now) in
+    let comes = comes_still f g.W.Render start c.in_default.ensures.none c.rounds.invariant.comes in (
       standing f c.resume.new.self.printer,
-      error_anyhow (g.W.Render.document_errors c.resume.new.out) _
-          (c.in_err-resume.ensures.runs start (comes_still f start (ap sink same.0) same.1 c.rounds.invariant.comes)),
+      error_anyhow (g.W.Render.document_errors c.resume.new.out) _ (c.in_err-resume.ensures.runs start comes),
     )
 
 pub returns-in_err-resume-clause-few : goal.returns-in_err-resume-clause-few
 returns-in_err-resume-clause-few g c = λ linear none.
     let f = g.N.Walk.tree in
-    let sink = seen g.W.Render.bytes g.W.Render.failures g.W.Render.lender in
-    let start = point_of f c.args.self.now (sink c.args.out.now) in
-    let same = c.in_default.ensures.none in
-    let old : c.rounds.refused ≡ 0 = omega (arith, none, c.try_shift.ensures.rises) in
+    let start = point_of f c.args.self.now (seen_by g.W.Render c.args.out.now) in
+    let comes = comes_still f g.W.Render start c.in_default.ensures.none c.rounds.invariant.comes in
     within_few
-    (goes_on_without f g.N.Walk.HAS_SUMMARIES c.rounds.policy c.limit-limit.result c.rounds.room (nodes (tasks_of f c.args.self.now.printer))
-    same.1 (c.rounds.invariant.within linear old) linear.size (λ room. c.in_default.ensures.large room none)
-    (c.rounds.invariant.next linear old) c.rounds.invariant.start c.limit-limit.ensures
-    (c.in_err-resume.ensures.spends start (comes_still f start (ap sink same.0) same.1 c.rounds.invariant.comes) linear.plain))
+    (goes_on_without (c.rounds.invariant.round linear (omega (arith, none, c.try_shift.ensures.rises)))
+    (record { size = linear.size; large = λ room. c.in_default.ensures.large room none })
+    g.N.Walk.HAS_SUMMARIES c.limit-limit.result c.in_default.ensures.none.1 c.limit-limit.ensures
+    (c.in_err-resume.ensures.spends start comes linear.plain))
 
 pub returns-in_err-resume-clause-twice : goal.returns-in_err-resume-clause-twice
 returns-in_err-resume-clause-twice g c = λ linear none some small.
     let old : c.rounds.refused ≡ 0 = omega (arith, none, c.try_shift.ensures.rises) in
-    absurd (always_room g.N.Walk.tree c.rounds.self (c.rounds.invariant.first linear old some small).0 some small
-    (c.rounds.invariant.within linear old) linear.size (λ room. c.in_default.ensures.large room none))
+    absurd (always_room (c.rounds.invariant.round linear old)
+    (record { size = linear.size; large = λ room. c.in_default.ensures.large room none })
+    (c.rounds.invariant.first linear old some small).0 some small)
 
 -- it stopped
 pub rounds-smaller : goal.rounds-smaller
 rounds-smaller g c =
     let f = g.N.Walk.tree in
-    let sink = seen g.W.Render.bytes g.W.Render.failures g.W.Render.lender in
-    let start = point_of f c.args.self.now (sink c.args.out.now) in
-    let same = c.in_default.ensures.none in
-    let stopped = (rw c.in-Shift.is at c.in_ok-resume.ensures.runs) start
-    (comes_still f start (ap sink same.0) same.1 c.rounds.invariant.comes) in
+    let start = point_of f c.args.self.now (seen_by g.W.Render c.args.out.now) in
+    let comes = comes_still f g.W.Render start c.in_default.ensures.none c.rounds.invariant.comes in
+    let stopped = (rw c.in-Shift.is at c.in_ok-resume.ensures.runs) start comes in
     let low : c.rounds.self.visits.probes ≤ c.limit-limit.result =
     subst (λ (n : ℕ). c.rounds.self.visits.probes ≤ n)
-    (ap (λ (r : Run _). probe_limit c.rounds.policy r.visits) (sym same.1) ∙ sym c.limit-limit.ensures) c.rounds.invariant.low in
+    (ap (λ (r : Run _). probe_limit c.rounds.policy r.visits) (sym c.in_default.ensures.none.1) ∙ sym c.limit-limit.ensures)
+    c.rounds.invariant.low in
     omega (arith, stopped.past.0, stopped.past.1, low)
 
 pub rounds-preserved : goal.rounds-preserved
 rounds-preserved g c =
     let f = g.N.Walk.tree in
-    let n = nodes (tasks_of f c.args.self.now.printer) in
-    let sink = seen g.W.Render.bytes g.W.Render.failures g.W.Render.lender in
-    let start = point_of f c.args.self.now (sink c.args.out.now) in
-    let same = c.in_default.ensures.none in
-    let comes = comes_still f start (ap sink same.0) same.1 c.rounds.invariant.comes in
+    let start = point_of f c.args.self.now (seen_by g.W.Render c.args.out.now) in
+    let comes = comes_still f g.W.Render start c.in_default.ensures.none c.rounds.invariant.comes in
     record {
       comes = ((rw c.in-Shift.is at c.in_ok-resume.ensures.runs) start comes).comes;
-      start = c.next_room-room.ensures.start ∙ c.rounds.invariant.start;
       low = c.next_room-room.ensures.within;
+      start = c.next_room-room.ensures.start ∙ c.rounds.invariant.start;
       rises = omega (arith, c.rounds.invariant.rises, c.try_shift.ensures.rises);
-      next = λ linear none.
-          let old : c.rounds.refused ≡ 0 = omega (arith, none, c.try_shift.ensures.rises) in
-          omega (
-            arith,
-            c.next_room-room.ensures.next,
-            c.rounds.invariant.next linear old,
-            no_more_room f c.rounds.self c.rounds.room n (c.rounds.invariant.within linear old) linear.size
-                (λ room. c.in_default.ensures.large room none),
-          );
-      within = λ linear none.
-          let old : c.rounds.refused ≡ 0 = omega (arith, none, c.try_shift.ensures.rises) in
-          goes_on_without f g.N.Walk.HAS_SUMMARIES c.rounds.policy c.limit-limit.result c.rounds.room n
-          same.1 (c.rounds.invariant.within linear old) linear.size (λ room. c.in_default.ensures.large room none)
-          (c.rounds.invariant.next linear old) c.rounds.invariant.start c.limit-limit.ensures
-          (c.in_ok-resume.ensures.spends start comes linear.plain);
+      round = λ linear none.
+          let before = c.rounds.invariant.round linear (omega (arith, none, c.try_shift.ensures.rises)) in
+          record {
+            within = goes_on_without before
+                (record { size = linear.size; large = λ room. c.in_default.ensures.large room none })
+                g.N.Walk.HAS_SUMMARIES c.limit-limit.result c.in_default.ensures.none.1
+                c.limit-limit.ensures (c.in_ok-resume.ensures.spends start comes linear.plain);
+            next = omega (
+              arith,
+              c.next_room-room.ensures.next,
+              next_within before (record { size = linear.size; large = λ room. c.in_default.ensures.large room none }),
+            );
+            start = c.next_room-room.ensures.start ∙ c.rounds.invariant.start;
+          };
       first = λ linear none some small.
           let old : c.rounds.refused ≡ 0 = omega (arith, none, c.try_shift.ensures.rises) in
-          absurd (always_room f c.rounds.self (c.rounds.invariant.first linear old some small).0 some small
-          (c.rounds.invariant.within linear old) linear.size (λ room. c.in_default.ensures.large room none));
+          absurd (always_room (c.rounds.invariant.round linear old)
+          (record { size = linear.size; large = λ room. c.in_default.ensures.large room none })
+          (c.rounds.invariant.first linear old some small).0 some small);
       summed = c.in_ok-resume.ensures.summed;
     }

@@ -1,27 +1,25 @@
-use Rattle.std.proofs.Common.{◌≡◌, ◌-◌, ◌^◌, ◌≤◌, ◌<◌, max}
+use Rattle.std.proofs.Common.{◌≡◌, ◌-◌, ◌^◌, ◌≤◌, ◌<◌}
 use Rattle.prettyless_probe.specs.Stack.{nodes}
 use Rattle.prettyless_step.specs.Printing.{tasks_of}
 use Rattle.prettyless_probe.specs.Sums.{IsSummed}
-use Rattle.prettyless_printer.specs.Points.{point_of, seen, standing}
+use Rattle.prettyless_printer.specs.Points.{point_of, seen_by, standing}
 use Rattle.prettyless_printer.specs.Runs.{RunReaches, station_of}
 use Rattle.prettyless_printer.specs.ShiftPolicy.{probe_limit}
 use Rattle.prettyless_printer.specs.Linear.{IsLinearStart}
-use Rattle.prettyless_printer.specs.Spending.{left_of}
-use Rattle.prettyless_printer.proofs.ShiftSpending.{Within}
+use Rattle.prettyless_printer.proofs.ShiftSpending.{Round}
 use Rattle.prettyless_printer.proofs.run.Run.run_with_shift.Given as goal
 
 abbrev pub invariant-rounds : goal.invariant-rounds
 invariant-rounds g l =
     let f = g.N.Walk.tree in
-    let sink = seen g.W.Render.bytes g.W.Render.failures g.W.Render.lender in
+    let sink = seen_by g.W.Render in
     let n = nodes (tasks_of f l.fn.self.printer) in
     record {
       comes : RunReaches (point_of f l.fn.self (sink l.fn.out)) (station_of f l.self (sink l.out));
-      start : l.policy.start ≡ l.fn.self.visits;
       low : l.self.visits.probes ≤ probe_limit l.policy l.self.visits;
+      start : l.policy.start ≡ l.fn.self.visits;
       rises : l.fn.refused ≤ l.refused;
-      next : IsLinearStart (standing f l.fn.self.printer) → l.refused ≡ 0 → l.policy.next_try ≤ max n l.room;
-      within : IsLinearStart (standing f l.fn.self.printer) → l.refused ≡ 0 → Within n l.fn.self.visits (left_of f l.self);
+      round : IsLinearStart (standing f l.fn.self.printer) → l.refused ≡ 0 → Round f n l.room l.fn.self.visits l.policy l.self;
       first : IsLinearStart (standing f l.fn.self.printer) → l.refused ≡ 0 → 0 < l.fn.room_at_first → n ≤ l.fn.room_at_first
           → (l.room ≡ l.fn.room_at_first) × (l.self ≡ l.fn.self);
       summed : IsSummed g.N.Walk.HAS_SUMMARIES f l.self.printer.commands;

@@ -8,10 +8,9 @@ use Rattle.prettyless_table.proofs.Rooms.{room_for}
 use Rattle.prettyless_table.proofs.Shifting.{stored_kept}
 use Rattle.prettyless_table.specs.Owners.{documents_left}
 use Rattle.prettyless_printer.specs.declared.run.Run.{Run}
-use Rattle.prettyless_printer.specs.Points.{seen, standing}
-use Rattle.prettyless_printer.specs.Open.{held, held_of, seconds}
+use Rattle.prettyless_printer.specs.Points.{seen_by, standing}
+use Rattle.prettyless_printer.specs.Open.{held, held_of, run_documents, run_nodes, seconds}
 use Rattle.prettyless_printer.specs.Runs.{RunReaches}
-use Rattle.prettyless_printer.specs.Storing.{run_documents, run_nodes}
 use Rattle.prettyless_printer.proofs.Shifted.{same_station, shifted_stands, spends_over}
 use Rattle.prettyless_printer.proofs.run.Run.shift.Goals as goal
 
@@ -66,7 +65,7 @@ placed_printer-requires-clause-stored g c =
 pub finish-ended-requires-clause-comes : goal.finish-ended-requires-clause-comes
 finish-ended-requires-clause-comes g c =
     let f = g.N.Walk.tree in
-    let same = same_station f c.args.self.now (seen g.W.Render.bytes g.W.Render.failures g.W.Render.lender c.args.out.now)
+    let same = same_station f c.args.self.now (seen_by g.W.Render c.args.out.now)
     c.in_ok-trials.ensures (shifted_stands f _ c.args.self.now.printer c.in_ok-printer.printer c.in_ok-printer.ensures.shifted)
     c.replace-buffer.ensures.value in
     (c.requires.comes.0, subst (RunReaches c.requires.comes.0) (sym same) c.requires.comes.1)
@@ -75,7 +74,7 @@ finish-ended-requires-clause-comes g c =
 pub returns-clause-ended : goal.returns-clause-ended
 returns-clause-ended g c = λ a comes.
     let f = g.N.Walk.tree in
-    let same = same_station f c.args.self.now (seen g.W.Render.bytes g.W.Render.failures g.W.Render.lender c.args.out.now)
+    let same = same_station f c.args.self.now (seen_by g.W.Render c.args.out.now)
     c.in_ok-trials.ensures (shifted_stands f _ c.args.self.now.printer c.in_ok-printer.printer c.in_ok-printer.ensures.shifted)
     c.replace-buffer.ensures.value in
     let there = subst (RunReaches a) (sym same) comes in

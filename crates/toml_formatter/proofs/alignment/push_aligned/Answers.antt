@@ -6,7 +6,7 @@ use Rattle.toml_lexemes.specs.SpacedLexer.{spaced_of}
 use Rattle.toml_formatter.specs.Alignment.{aligned_from, moved_by, moved_gap, standing_past}
 use Rattle.toml_formatter.specs.declared.standing.Standing.{Standing}
 use Rattle.toml_formatter.proofs.Aligning.{one_more}
-use Rattle.toml_formatter.proofs.alignment.aligned.Goals as goal
+use Rattle.toml_formatter.proofs.alignment.push_aligned.Goals as goal
 
 pub loop-found-preserved : goal.loop-found-preserved
 loop-found-preserved c =
