@@ -68,7 +68,7 @@ hash_alone false false false false false false false true q p = refl
 hash_alone false false false false false false false false true p = absurd (cc)
 hash_alone false false false false false false false false false p = absurd (cc)
 
-comment_byte : (x : ℕ) → is_comment_sort (sort_by x) ≡ true → x ≡ 35
+pub comment_byte : (x : ℕ) → is_comment_sort (sort_by x) ≡ true → x ≡ 35
 comment_byte x p =
     eqb-true x 35 (hash_alone (x == 91) (x == 93) (x == 123) (x == 125) (x == 44) (x == 61) (x == 10) (x == 35) (is_quote x) p)
 
@@ -116,7 +116,7 @@ pub spaces_gap : (n : ℕ) → IsTomlGap (spaces n)
 spaces_gap zero = tt
 spaces_gap (suc n) = (refl, spaces_gap n)
 
-gap_moved : (moved : Option ℕ) (g : List ℕ) → IsTomlGap g → IsTomlGap (moved_gap moved g)
+pub gap_moved : (moved : Option ℕ) (g : List ℕ) → IsTomlGap g → IsTomlGap (moved_gap moved g)
 gap_moved None g h = h
 gap_moved (Some n) g h = (refl, spaces_gap n)
 
@@ -133,11 +133,11 @@ follows_next st p ps s rest other alone gap h = go (is_at_end st p) refl
 
 -- ---- all lexemes
 
-abbrev AreAlone : List (List ℕ) → Type 0
+abbrev pub AreAlone : List (List ℕ) → Type 0
 AreAlone ss = All (λ s. cut_toml between s ≡ s ∷ []) ss
 
 -- the bytes of the lexemes that are left, with comments moved
-abbrev moved_bytes : Standing → List ℕ → List (List ℕ) → List ℕ
+abbrev pub moved_bytes : Standing → List ℕ → List (List ℕ) → List ℕ
 moved_bytes st bytes ss = toml_put_together (aligned_from st (toml_spaced_as bytes ss))
 
 module _ (bytes g t rest : List ℕ) (ss : List (List ℕ)) (gap : IsTomlGap g) (is : bytes ≡ g ++ (t ++ rest))
@@ -177,7 +177,7 @@ well_spaced (t ∷ ss) bytes st (g, rest, gap, is, follows, later) each =
     )
 
 -- the lexemes stay
-aligned_lexemes : (bytes : List ℕ) → toml_lexemes_of (with_aligned_comments bytes) ≡ toml_lexemes_of bytes
+pub aligned_lexemes : (bytes : List ℕ) → toml_lexemes_of (with_aligned_comments bytes) ≡ toml_lexemes_of bytes
 aligned_lexemes bytes =
     same_lexemes (with_aligned_comments bytes) (toml_lexemes_of bytes) (lexemes_alone bytes)
     (well_spaced (toml_lexemes_of bytes) bytes first_standing (IsWellSpaced-lexemes bytes) (lexemes_alone bytes))

@@ -1,13 +1,16 @@
 pub mod SoundTexts
+pub mod Spellings
 pub mod Stages
 pub mod StatementLemmas
 pub mod DepthLemmas
 pub mod DraftLemmas
+pub mod ExactDocuments
 pub mod Documents
 pub mod LineLemmas
 pub mod Trims
 pub mod Values
 pub mod Aligning
+pub mod AlignedAgain
 pub mod InTurn
 pub mod Walking
 pub mod SheetLemmas

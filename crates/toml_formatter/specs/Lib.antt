@@ -8,8 +8,10 @@ pub mod Lexing
 pub mod Lines
 pub mod Ahead
 pub mod Alignment
+pub mod AlignmentLaws
 pub mod Documents
 pub mod Drafts
 pub mod Walks
 pub mod Sheets
+pub mod Spellings
 pub mod Presses

@@ -26,8 +26,8 @@ use prettyless_shapes::{ended, nil};
 use std::alloc::{AllocError, Global};
 use toml_lexemes::Lexeme;
 
-/// How many lexemes that begin statements or end lines have their documents in one arena.
-const TURN: usize = 32;
+/// With so many nodes an arena is given up.
+const FULL: usize = 1024;
 
 /// The text that is laid out, and what it is laid out with.
 #[derive(Clone, Copy)]
@@ -182,7 +182,7 @@ fn lay_some<'a, 't: 'a>(
     ensures err { IfErr result (IsRefusalOf press.now.text.now) }
 {
     lay_next(press, arena, lexemes, laid, first)?;
-    for _ in 1..TURN {
+    while arena.len() < FULL {
         match lexemes.next() {
             Some(next) => lay_next(press, arena, lexemes, laid, next)?,
             None => return Ok(()),

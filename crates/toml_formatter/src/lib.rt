@@ -7,6 +7,7 @@ mod document;
 mod error;
 mod gaps;
 mod kind;
+mod laws;
 mod layout;
 mod line;
 mod list;
@@ -20,6 +21,7 @@ mod trim;
 mod walk;
 
 pub use error::FormatError;
+pub use laws::{law_alignment, law_layout};
 pub use layout::formatted;
 pub use style::Style;
 pub use toml_grammar::MAX_DEPTH;
