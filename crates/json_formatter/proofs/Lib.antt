@@ -3,6 +3,7 @@ pub mod ByValue
 pub mod Chains
 pub mod Closing
 pub mod Filled
+pub mod FirstLine
 pub mod FlatTrees
 pub mod GapsAhead
 pub mod GapsFilled

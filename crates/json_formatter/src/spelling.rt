@@ -7,6 +7,7 @@ ghost use Rattle.json_formatter.specs.Spelling.{spelling_of};
 
 use crate::gaps::Gap;
 use crate::style::{LineEnd, Style};
+use memchr::memchr;
 
 /// How line ends and indents are spelled.
 #[derive(Clone, Copy)]
@@ -30,14 +31,10 @@ pub(crate) enum Spelled {
 fn begins_crlf(text: &[u8]) -> bool
     ensures { result ≡ begins_crlf false text.now }
 {
-    let mut after_return = false;
-    for byte in text {
-        if *byte == b'\n' {
-            return after_return;
-        }
-        after_return = *byte == b'\r';
+    match memchr(b'\n', text) {
+        Some(place) => place > 0 && text[place - 1] == b'\r',
+        None => false,
     }
-    false
 }
 
 // Whether the lines of a layout of a text end in CR LF.
