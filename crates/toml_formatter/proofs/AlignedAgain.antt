@@ -1,5 +1,6 @@
 -- Aligned comments stay where they are when they are aligned again, and an aligned text is TOML where the text is.
-use Rattle.std.proofs.Common.{◌≡◌, refl, sym, ◌∙◌, ap, subst, ℕ, zero, suc, ◌-◌, ◌==◌, Bool, true, false, not, cond, ◌&&◌, max, List, [], ◌∷◌, ◌++◌}
+use Rattle.std.proofs.Common.{◌≡◌, refl, sym, ◌∙◌, ap, subst, ℕ, zero, suc, ◌-◌, ◌==◌, Bool, true, false, not, cond, ◌&&◌, max, List, []}
+use Rattle.std.proofs.Common.{◌∷◌, ◌++◌}
 use Rattle.std.proofs.Common.{append-nil}
 use Rattle.std.specs.Prelude.{Option, Some, None, if◌then◌else◌, Result, Ok, Err, is_ok}
 use Rattle.std.specs.List.{list_all}
@@ -16,9 +17,12 @@ use Rattle.toml_lexemes.specs.Bytes.{blank_space, carriage_return, hash}
 use Rattle.toml_grammar.specs.Sorts.{sort_of}
 use Rattle.toml_grammar.specs.declared.expected.Expected.{Expected}
 use Rattle.toml_formatter.specs.Alignment.{aligned_from, ends_the_line, first_standing, is_at_end, is_comment_lexeme, is_comment_sort}
-use Rattle.toml_formatter.specs.Alignment.{known_or, most_columns, most_here, moved_by, moved_gap, reach_past, reach_start, reach_with_comment}
+use Rattle.toml_formatter.specs.Alignment.{known_or, most_columns, most_here, moved_by, moved_gap, reach_past, reach_start}
+use Rattle.toml_formatter.specs.Alignment.{reach_with_comment}
 use Rattle.toml_formatter.specs.Alignment.{standing_past, with_aligned_comments}
-use Rattle.toml_formatter.specs.AlignmentLaws.{AlignedCommentsStay, AlignedLexemesStay, AlignedTextsAreToml}
+use Rattle.toml_formatter.specs.Alignment.{comments_as}
+use Rattle.toml_formatter.specs.Documents.{toml_document}
+use Rattle.toml_formatter.specs.AlignmentLaws.{AlignedCommentsStay, AlignedDocumentsStay, AlignedLexemesStay, AlignedTextsAreToml}
 use Rattle.toml_formatter.specs.declared.standing.Reach.{Reach}
 use Rattle.toml_formatter.specs.declared.standing.Standing.{Standing}
 use Rattle.toml_formatter.proofs.Aligning.{AreAlone, aligned_lexemes, comment_byte, gap_moved, moved_bytes, spaced_next}
@@ -41,7 +45,8 @@ spaced_moved (t ∷ ss) bytes st (g, rest, gap, is, follows, later) each =
     (spaced_next (moved ++ (t ++ after)) moved t after ss (gap_moved (moved_by st p ps) g gap) refl alone
     ∙ ap (λ (l : List SpacedToml). after_toml_gap moved t ∷ l) (spaced_moved ss rest next later others))
 
-spaced_aligned : (bytes : List ℕ) → toml_spaced_lexemes (with_aligned_comments bytes) ≡ aligned_from first_standing (toml_spaced_lexemes bytes)
+spaced_aligned : (bytes : List ℕ)
+    → toml_spaced_lexemes (with_aligned_comments bytes) ≡ aligned_from first_standing (toml_spaced_lexemes bytes)
 spaced_aligned bytes =
     ap (λ (ss : List (List ℕ)). toml_spaced_as (with_aligned_comments bytes) ss) (aligned_lexemes bytes)
     ∙ spaced_moved (toml_lexemes_of bytes) bytes first_standing (IsWellSpaced-lexemes bytes) (lexemes_alone bytes)
@@ -168,7 +173,8 @@ reading_moved (p ∷ ps) r st h = by (λ t. reading_moved ps t (standing_past st
         → (x : Result Reading Expected) → lexeme_step r p ≡ x → is_ok (then_lexemes x (λ t. reading_after t ps)) ≡ true
         → is_ok (reading_after r (aligned_from st (p ∷ ps))) ≡ true
     by later (Ok t) e ok =
-        ap (λ (x : Result Reading Expected). is_ok (then_lexemes x (λ u. reading_after u (aligned_from next ps)))) (step_moved r st p ps t e)
+        ap (λ (x : Result Reading Expected). is_ok (then_lexemes x (λ u. reading_after u (aligned_from next ps))))
+        (step_moved r st p ps t e)
         ∙ later t ok
     by later (Err x) e ok = absurd (cc)
 
@@ -176,6 +182,13 @@ reading_moved (p ∷ ps) r st h = by (λ t. reading_moved ps t (standing_past st
 
 pub lexemes_stay : AlignedLexemesStay
 lexemes_stay bytes = aligned_lexemes bytes
+
+lexemes_as : (align : Bool) (text : List ℕ) → toml_lexemes_of (comments_as align text) ≡ toml_lexemes_of text
+lexemes_as true text = aligned_lexemes text
+lexemes_as false text = refl
+
+pub documents_stay : AlignedDocumentsStay
+documents_stay style text = ap (toml_document style) (lexemes_as style.align text)
 
 pub comments_stay : AlignedCommentsStay
 comments_stay bytes =

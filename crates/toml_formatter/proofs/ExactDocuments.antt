@@ -14,7 +14,8 @@ use Rattle.toml_lexemes.specs.Statements.{trimmed}
 use Rattle.toml_grammar.specs.Sorts as sort
 use Rattle.toml_grammar.specs.Sorts.{Sort, sort_of}
 use Rattle.toml_formatter.specs.Documents.{Part, Commented, RowEntry, End, Level, Draft, after_comments, after_part, after_rest, broken_if}
-use Rattle.toml_formatter.specs.Documents.{closed_end, comma_kept, comments_tree, document_from, draft_with, draft_with_statement, end_after_comma}
+use Rattle.toml_formatter.specs.Documents.{closed_end, comma_kept, comments_tree, document_from, draft_with, draft_with_statement}
+use Rattle.toml_formatter.specs.Documents.{end_after_comma}
 use Rattle.toml_formatter.specs.Documents.{ended_in, entry_with_comma, first_levels, indent_in, is_line_feed_byte, is_some}
 use Rattle.toml_formatter.specs.Documents.{level_end, level_with, levels_after, levels_closed, levels_with, lexeme_tree}
 use Rattle.toml_formatter.specs.Documents.{lines_with, list_tree, new_level, new_statement, no_draft, part_end, separated, toml_document}
@@ -22,6 +23,9 @@ use Rattle.toml_formatter.specs.Documents.{trailed_end, unclosed_tree, with_ende
 use Rattle.toml_formatter.specs.Formats.{toml_options}
 use Rattle.toml_formatter.specs.Gaps.{gap_before_close, gap_before_comma, gap_before_comment, gap_before_text}
 use Rattle.toml_formatter.specs.Spellings.{IsExact, LayoutsAreSpelledOut}
+use Rattle.prettyless_model.specs.declared.mode.Mode.TheVariants.{Break}
+use Rattle.toml_lexemes.proofs.Gaps.{lexemes_alone}
+use Rattle.toml_formatter.proofs.SaidDocuments.{are_commas, says_document}
 use Rattle.toml_formatter.proofs.Spellings.{layouts_are_spellings}
 use Rattle.toml_formatter.specs.declared.gaps.Gap.{Gap}
 use Rattle.toml_formatter.specs.declared.gaps.Gap.TheVariants as gap
@@ -215,7 +219,8 @@ pub record IsExactDraft (d : Draft) : Type 0 where
 
 exact_lines : (blank : Bool) (lines statement : Tree) → IsExact lines → IsExact statement → IsExact (lines_with blank lines statement)
 exact_lines false lines statement h k = exact_append lines _ h (exact_append statement HardLine k tt)
-exact_lines true lines statement h k = exact_append (append lines HardLine) _ (exact_append lines HardLine h tt) (exact_append statement HardLine k tt)
+exact_lines true lines statement h k =
+    exact_append (append lines HardLine) _ (exact_append lines HardLine h tt) (exact_append statement HardLine k tt)
 
 exact_with_statement : (d : Draft) (statement : Tree) → IsExact d.done → IsExact statement → IsExactDraft (draft_with_statement d statement)
 exact_with_statement d statement h k = record { done = exact_lines d.blank d.done statement h k; levels = tt }
@@ -276,8 +281,16 @@ exact_total d h = absurd h
 pub layouts_spelled_out : LayoutsAreSpelledOut
 layouts_spelled_out style ending text =
     let o = toml_options style ending in
-    let d = toml_document style (toml_lexemes_of text) in
-    let exact = exact_document style (toml_lexemes_of text) in
+    let ss = toml_lexemes_of text in
+    let d = toml_document style ss in
+    let exact = exact_document style ss in
     let whole = total_layout o d (exact_total d exact) in
     let spells = layouts_are_spellings o d whole.0 refl exact whole.1 in
-    record { bytes = whole.0; laid = whole.1; bits = spells.0; spelled = spells.1; written = spells.2 }
+    record {
+      bytes = whole.0;
+      laid = whole.1;
+      bits = spells.0;
+      spelled = spells.1;
+      written = spells.2;
+      texts = says_document style ss (are_commas ss (lexemes_alone text)) Break spells.0 [] spells.1;
+    }

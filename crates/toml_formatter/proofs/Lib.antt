@@ -1,3 +1,4 @@
+pub mod SaidDocuments
 pub mod SoundTexts
 pub mod Spellings
 pub mod Stages

@@ -104,7 +104,8 @@ module _ (o : RenderOptions) where
   text d m w (x ∷ s) is st u b clear h = record {
     bits = text_of (x ∷ s) ∷ [];
     spelled = is (text_of (x ∷ s) ∷ []) refl;
-    written = subst (AreWritten o st.column.fresh (text_of (x ∷ s) ∷ [])) (done_bytes h) (word_written st.column.fresh (gap st.column) (x ∷ s) clear.gap);
+    written = subst (AreWritten o st.column.fresh (text_of (x ∷ s) ∷ [])) (done_bytes h)
+        (word_written st.column.fresh (gap st.column) (x ∷ s) clear.gap);
     fresh_is = ap (λ (t : State). t.column.fresh) (sym (done_state h));
     clear = subst IsClear (done_state h) (record { pending = clear.pending; gap = λ e. none_sum });
   }
@@ -180,7 +181,8 @@ module _ (o : RenderOptions) where
         by (λ n k. laid d exact i n rest st u b clear k) (probe o d i Flat rest st) h
       where
         by : ((n : Mode) → lay o (settle o) d i n rest st ≡ Done b u → Spells o d n st.column.fresh b u)
-            → (p : Bool) → lay o (settle o) d i (if p then Flat else Break) rest st ≡ Done b u → Spells o (Group d) Break st.column.fresh b u
+            → (p : Bool) → lay o (settle o) d i (if p then Flat else Break) rest st ≡ Done b u
+            → Spells o (Group d) Break st.column.fresh b u
         by inner true k = of d (Group d) Flat Break st.column.fresh b u (λ bits e. inr e) (inner Flat k)
         by inner false k = of d (Group d) Break Break st.column.fresh b u (λ bits e. inl e) (inner Break k)
     laid (Group d) exact i Flat rest st u b clear h =

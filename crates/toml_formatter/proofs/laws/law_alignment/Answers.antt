@@ -1,4 +1,4 @@
-use Rattle.toml_formatter.proofs.AlignedAgain.{comments_stay, lexemes_stay, toml_stays}
+use Rattle.toml_formatter.proofs.AlignedAgain.{comments_stay, documents_stay, lexemes_stay, toml_stays}
 use Rattle.toml_formatter.proofs.laws.law_alignment.Goals as goal
 
 pub returns-clause-lexemes : goal.returns-clause-lexemes
@@ -9,3 +9,6 @@ returns-clause-again c = comments_stay
 
 pub returns-clause-toml : goal.returns-clause-toml
 returns-clause-toml c = toml_stays
+
+pub returns-clause-documents : goal.returns-clause-documents
+returns-clause-documents c = documents_stay
