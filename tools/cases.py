@@ -1,4 +1,53 @@
-"""Reads the cases of programs/, whose language programs/README.md describes. Python 3.8 or later."""
+r"""Reads the cases of programs/. Python 3.8 or later.
+
+tools/programs runs each proved program on the cases in the folder of its name, each in a folder of its own, not as
+root. Unless a case says otherwise, nothing is written, the status is 0, and no file changes.
+
+    # A comment.
+
+    == a title
+    file a.json: "[1,2]"
+    words: --write a.json
+    new a.json: "[1, 2]\n"
+
+    == fields in common
+    stdin: "[1,2]"
+    --
+    stdout:
+    | [1, 2]
+    --
+    words: --width=5
+    stdout: "[\n  1,\n  2\n]\n"
+
+    == rows
+    status: 1
+    rows: stdin stderr
+    "[1,]" "<stdin>:1:4: expected a value, found `]`\n"
+
+A text is strings in quotes with + between them; * N repeats one, and " .." at its end stands for any rest. Escapes
+are Rust's, and \xHH any byte. Lines below a field are a text too: after "| ", with a line feed, or strings.
+
+    words                        words after the program's name; in a row, one text
+    stdin                        a text, closed, or folder
+    stdout, stderr               a text, full (disk) or closed (pipe)
+    status                       its number
+    file NAME, pipe NAME         a file or named pipe before the run
+    link NAME, hard link NAME    where it leads
+    mode NAME                    permissions, in octal
+    new NAME                     what replaces the file, with its owner and permissions
+    as: root                     run by root on another's files
+    room                         greatest size of a file
+    again: yes                   standard output, as input, is written again
+    texts                        a folder of standard inputs
+    value                        standard output has the input's value: yes, or on one line
+    takes                        most bytes a read or write takes
+    calls                        calls on files, in order
+    changes                      a file, and a call: before its first time another appends a line feed
+    fails                        an error or nothing: each call, or each named, fails so once
+    failure                      status and message of such a run; no file changes
+    passed over                  calls whose failure changes nothing
+    rows                         fields of each row
+"""
 
 import contextlib
 import glob

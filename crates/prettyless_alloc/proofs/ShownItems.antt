@@ -12,7 +12,7 @@ use Rattle.prettyless_model.specs.declared.choice.NestingTest.{NestingTest}
 use Rattle.prettyless_doc.specs.Counted as counted
 use Rattle.prettyless_doc.specs.Lines.{line, line_, space}
 use Rattle.prettyless_doc.specs.Tree.{Tree, Nil, Text, TextWithLen, MultilineText, WeakSpace, HardLine, WeakLine, LineSuffix}
-use Rattle.prettyless_doc.specs.Tree.{DedentToRoot, Align, BreakOrFlat, Union, PartialUnion, OnColumn, OnNesting}
+use Rattle.prettyless_doc.specs.Tree.{DedentToRoot, Align, Flatten, BreakOrFlat, Group, Union, PartialUnion, OnColumn, OnNesting}
 use Rattle.prettyless_build.specs.Built.{align, append, append_to, between, dedent_to_root, enclose, flatten, group}
 use Rattle.prettyless_build.specs.Built.{nest, nest_by, softline, softline_}
 use Rattle.prettyless_alloc.specs.Lists.{change_all_but_last}
@@ -130,6 +130,7 @@ nest_shows k x items h = nest_by_shows k x items h
 
 pub group_shows : (x : Tree) (items : List Item) → shows x items → shows (group x) items
 group_shows Nil items h = h
+group_shows (Group x) items h = h
 group_shows _ items h = h
 
 pub align_shows : (x : Tree) (items : List Item) → shows x items → shows (align x) items
@@ -146,6 +147,7 @@ pub flatten_shows : (x : Tree) (items : List Item) → shows x items → shows (
 flatten_shows Nil items h = h
 flatten_shows (MultilineText s) items h = tt
 flatten_shows HardLine items h = tt
+flatten_shows (Flatten x) items h = h
 flatten_shows _ items h = h
 
 -- put off to the end of the line

@@ -77,3 +77,10 @@ some_before x y h = subst IsNotNil (sym (append_some x y h)) (some_to x y h)
 pub some_after : (x y : Tree) → IsNotNil y → IsNotNil (append x y)
 some_after Nil y h = h
 some_after x y h = some_before x y tt
+
+-- a node of two of them and of a third one
+pub placed_after : (all gap doc front back : Tree) → IsNotNil all → IsNotNil gap → IsNotNil doc → front ≡ Append all gap → back ≡ doc
+    → Append front back ≡ append (append all gap) doc
+placed_after all gap doc front back h k l e f =
+    ap (λ (x : Tree). Append x back) (e ∙ sym (two_appended all gap h k)) ∙ ap (Append (append all gap)) f
+    ∙ sym (two_appended (append all gap) doc (some_before all gap h) l)

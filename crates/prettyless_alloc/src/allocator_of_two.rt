@@ -1,14 +1,14 @@
 //! The calls of a place of nodes that take two documents.
 ghost use Rattle.prettyless_doc.specs.Tree.{OnColumn, OnNesting};
 ghost use Rattle.prettyless_doc.specs.DocTree.{built};
-ghost use Rattle.prettyless_doc.specs.Parts.{of_two};
+ghost use Rattle.prettyless_model.specs.Tree.{Two};
 ghost use Rattle.prettyless_build.specs.Built as to;
 
 use prettyless_build::nodes::of_two;
 use prettyless_build::{DocBuilder, Pretty};
-use prettyless_doc::parts::Pair;
 use prettyless_doc::{BuildError, DocPlace};
-use prettyless_model::choice::{ColumnTest, NestingTest};
+use prettyless_model::choice::{ChoiceTest, ColumnTest, NestingTest};
+use prettyless_model::kind::Pair;
 
 /// The documents that every place of nodes can make of one of type `P` and one of type `Q`. Each call fails as making one
 /// of the two does, or where memory is refused. The first becomes a document before the second, and both do, also where the
@@ -54,7 +54,12 @@ impl<'a, D: DocPlace<'a>, P: Pretty<'a, D>, Q: Pretty<'a, D>> DocAllocatorOfTwo<
         first: P,
         second: Q,
     ) -> Result<DocBuilder<'a, D>, BuildError> {
-        choice(self, Pair::OnColumn(test), first, second)
+        choice(
+            self,
+            Pair::Chosen(ChoiceTest::OnColumn(test)),
+            first,
+            second,
+        )
     }
 
     fn if_nesting(
@@ -63,7 +68,12 @@ impl<'a, D: DocPlace<'a>, P: Pretty<'a, D>, Q: Pretty<'a, D>> DocAllocatorOfTwo<
         first: P,
         second: Q,
     ) -> Result<DocBuilder<'a, D>, BuildError> {
-        choice(self, Pair::OnNesting(test), first, second)
+        choice(
+            self,
+            Pair::Chosen(ChoiceTest::OnNesting(test)),
+            first,
+            second,
+        )
     }
 }
 
@@ -75,7 +85,7 @@ fn choice<'a, D: DocPlace<'a>, P: Pretty<'a, D>, Q: Pretty<'a, D>>(
     second: Q,
 ) -> Result<DocBuilder<'a, D>, BuildError>
     ensures { to.BuildsOfTwo result (λ b. built D.Doc.tree b.1) (P.becomes first) (Q.becomes second) (P.refuses first) (Q.refuses second)
-        (of_two kind) }
+        (Two kind) }
 {
     let first = first.pretty(place);
     let second = second.pretty(place);

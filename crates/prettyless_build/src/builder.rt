@@ -7,8 +7,8 @@ ghost use Rattle.prettyless_build.specs.Built as to;
 
 use crate::nodes::around;
 use crate::pretty::Pretty;
-use prettyless_doc::parts::Single;
 use prettyless_doc::{BuildDoc, BuildError, Doc, DocPlace};
+use prettyless_model::kind::Single;
 
 /// The place of nodes (`.0`), and a document in the making there (`.1`).
 pub struct DocBuilder<'a, D: DocPlace<'a>>(pub &'a D, pub BuildDoc<'a, D::Doc>);

@@ -6,8 +6,8 @@ ghost use Rattle.prettyless_build.specs.Built as to;
 use crate::builder::DocBuilder;
 use crate::nodes::of_two;
 use crate::pretty::Pretty;
-use prettyless_doc::parts::Pair;
 use prettyless_doc::{BuildDoc, BuildError, Doc, DocPlace};
+use prettyless_model::kind::Pair;
 
 impl<'a, D: DocPlace<'a>> DocBuilder<'a, D> {
     /// This document where lines are broken, and `that` where they are flat. The making of `that` can

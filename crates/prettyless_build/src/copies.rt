@@ -6,8 +6,8 @@ ghost use Rattle.prettyless_build.specs.Built as to;
 
 use crate::builder::DocBuilder;
 use crate::nodes::of_two;
-use prettyless_doc::parts::Pair;
 use prettyless_doc::{BuildError, Doc, DocPlace};
+use prettyless_model::kind::Pair;
 
 impl<'a, D: DocPlace<'a>> DocBuilder<'a, D> {
     /// So many copies of this document, one after the other, also where it is nothing. None is

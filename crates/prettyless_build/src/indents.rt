@@ -5,8 +5,8 @@ ghost use Rattle.prettyless_build.specs.Built as to;
 
 use crate::builder::DocBuilder;
 use crate::nodes::around;
-use prettyless_doc::parts::Single;
 use prettyless_doc::{BuildError, Doc, DocPlace};
+use prettyless_model::kind::{Indenting, Single};
 
 impl<'a, D: DocPlace<'a>> DocBuilder<'a, D> {
     /// This document with its indent moved by so many columns. By 0, or where it is nothing, it stays
@@ -72,7 +72,7 @@ impl<'a, D: DocPlace<'a>> DocBuilder<'a, D> {
     {
         match self.doc() {
             Doc::Nil | Doc::DedentToRoot(_) => Ok(self),
-            _ => around(Single::DedentToRoot, self),
+            _ => around(Single::Indented(Indenting::DedentToRoot), self),
         }
     }
 
@@ -89,7 +89,7 @@ impl<'a, D: DocPlace<'a>> DocBuilder<'a, D> {
     {
         match self.doc() {
             Doc::Nil | Doc::Align(_) => Ok(self),
-            _ => around(Single::Align, self),
+            _ => around(Single::Indented(Indenting::Align), self),
         }
     }
 }

@@ -1,27 +1,27 @@
 //! A document, or two, in a node of some kind.
 ghost use Rattle.prettyless_doc.specs.DocTree.{built};
-ghost use Rattle.prettyless_doc.specs.Parts.{around, of_two};
+ghost use Rattle.prettyless_model.specs.Tree.{One, Two};
 ghost use Rattle.prettyless_build.specs.Built as to;
 
 use crate::builder::DocBuilder;
-use prettyless_doc::parts::{Pair, Single};
-use prettyless_doc::{BuildError, DocPlace};
+use prettyless_doc::{BuildError, Doc, DocPlace};
+use prettyless_model::kind::{Pair, Single};
 
 /// A node of this kind around the document. It fails where memory is refused.
 ///
 /// ```
-/// around(Single::Nest(2), docs![place, "a", hard_line(), "b"]?)? // "a\n  b"
+/// around(Single::Indented(Indenting::Nest(2)), docs![place, "a", hard_line(), "b"]?)? // "a\n  b"
 /// ```
 #[inline(always)]
 pub fn around<'a, D: DocPlace<'a>>(
     kind: Single,
     inner: DocBuilder<'a, D>,
 ) -> Result<DocBuilder<'a, D>, BuildError>
-    ensures { to.Builds result (λ b. built D.Doc.tree b.1) (around kind (built D.Doc.tree inner.entry.1)) }
+    ensures { to.Builds result (λ b. built D.Doc.tree b.1) (One kind (built D.Doc.tree inner.entry.1)) }
 {
     let place = inner.0;
     let inner = inner.into_doc()?;
-    Ok(DocBuilder::new(place, kind.around(inner)))
+    Ok(DocBuilder::new(place, Doc::around(kind, inner)))
 }
 
 /// A node of this kind of the two documents. It fails where memory is refused.
@@ -36,10 +36,10 @@ pub fn of_two<'a, D: DocPlace<'a>>(
     second: DocBuilder<'a, D>,
 ) -> Result<DocBuilder<'a, D>, BuildError>
     ensures { to.Builds result (λ b. built D.Doc.tree b.1)
-        (of_two kind (built D.Doc.tree first.entry.1) (built D.Doc.tree second.entry.1)) }
+        (Two kind (built D.Doc.tree first.entry.1) (built D.Doc.tree second.entry.1)) }
 {
     let place = first.0;
     let first = first.into_doc()?;
     let second = second.into_doc()?;
-    Ok(DocBuilder::new(place, kind.of(first, second)))
+    Ok(DocBuilder::new(place, Doc::of_two(kind, first, second)))
 }

@@ -16,9 +16,9 @@ impl<'a, T: DocPtr<'a>> Doc<'a, T> {
     {
         Ok(match parts_of(place.memory(), self)? {
             Parts::None(node) => node,
-            Parts::One(kind, inner) => kind.around(place.clone_ptr(inner)?),
+            Parts::One(kind, inner) => Doc::around(kind, place.clone_ptr(inner)?),
             Parts::Two(kind, first, second) => {
-                kind.of(place.clone_ptr(first)?, place.clone_ptr(second)?)
+                Doc::of_two(kind, place.clone_ptr(first)?, place.clone_ptr(second)?)
             }
         })
     }

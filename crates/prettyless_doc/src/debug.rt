@@ -5,7 +5,8 @@ ghost use Rattle.prettyless_doc.specs.Shown.{IsBelow};
 
 use crate::doc::{BuildDoc, Doc, DocPtr};
 use crate::text::Text;
-use prettyless_model::choice::{ColumnTest, NestingTest};
+use prettyless_model::choice::{ChoiceTest, ColumnTest, NestingTest};
+use prettyless_model::kind::{Indenting, Pair, Single};
 use prettyless_probe::walk::{View, Walk};
 use std::fmt;
 
@@ -65,27 +66,34 @@ fn shape_of<N: Shown>(node: &N) -> DebugShape<'_, N>
         View::WeakSpace => DebugShape::Name("WeakSpace"),
         View::HardLine => DebugShape::Name("HardLine"),
         View::WeakLine => DebugShape::Name("WeakLine"),
-        View::Append(first, last) => DebugShape::Two(Head::List, first, last),
-        View::LineSuffix(inner) => DebugShape::One(Head::Name("LineSuffix"), inner),
-        View::Nest(offset, inner) => DebugShape::One(Head::Nest(offset), inner),
-        View::DedentToRoot(inner) => DebugShape::One(Head::Name("DedentToRoot"), inner),
-        View::Align(inner) => DebugShape::One(Head::Name("Align"), inner),
         View::ExpandParent => DebugShape::Name("ExpandParent"),
-        View::Flatten(inner) => DebugShape::One(Head::Name("Flatten"), inner),
-        View::BreakOrFlat(broken, flat) => shape_of_choice(broken, flat),
-        View::Group(inner) => shape_of_group(inner),
-        View::Union(first, second) => DebugShape::Two(Head::Name("Union"), first, second),
-        View::PartialUnion(first, second) => DebugShape::Two(
-            Head::Name("PartialUnion"),
-            first,
-            second,
-        ),
-        View::OnColumn(test, first, second) => DebugShape::Two(Head::OnColumn(test), first, second),
-        View::OnNesting(test, first, second) => DebugShape::Two(
-            Head::OnNesting(test),
-            first,
-            second,
-        ),
+        View::One(Single::LineSuffix, inner) => DebugShape::One(Head::Name("LineSuffix"), inner),
+        View::One(Single::Indented(how), inner) => DebugShape::One(head_of_indented(how), inner),
+        View::One(Single::Flatten, inner) => DebugShape::One(Head::Name("Flatten"), inner),
+        View::One(Single::Group, inner) => shape_of_group(inner),
+        View::Two(Pair::BreakOrFlat, broken, flat) => shape_of_choice(broken, flat),
+        View::Two(kind, first, second) => DebugShape::Two(head_of_two(kind), first, second),
+    }
+}
+
+// What is shown before a document whose indent is set.
+fn head_of_indented(how: Indenting) -> Head {
+    match how {
+        Indenting::Nest(offset) => Head::Nest(offset),
+        Indenting::DedentToRoot => Head::Name("DedentToRoot"),
+        Indenting::Align => Head::Name("Align"),
+    }
+}
+
+// What is shown before two documents.
+fn head_of_two(kind: Pair) -> Head {
+    match kind {
+        Pair::Append => Head::List,
+        Pair::BreakOrFlat => Head::Name("BreakOrFlat"),
+        Pair::Union => Head::Name("Union"),
+        Pair::PartialUnion => Head::Name("PartialUnion"),
+        Pair::Chosen(ChoiceTest::OnColumn(test)) => Head::OnColumn(test),
+        Pair::Chosen(ChoiceTest::OnNesting(test)) => Head::OnNesting(test),
     }
 }
 
@@ -110,7 +118,7 @@ fn shape_of_group<N: Shown>(inner: N) -> DebugShape<'static, N>
     ensures { IsBelow N.tree (Group (N.tree inner)) result }
 {
     let line = match inner.view() {
-        View::BreakOrFlat(broken, flat) => line_of(&broken, &flat),
+        View::Two(Pair::BreakOrFlat, broken, flat) => line_of(&broken, &flat),
         _ => None,
     };
     match line {

@@ -1,67 +1,42 @@
 //! A node by what it holds: nothing, one document or two. So what is done to each node alike is said once.
 ghost use Rattle.std.specs.Prelude.{◌≡◌, IfOk, IfErr};
+ghost use Rattle.prettyless_model.specs.Tree.{One, Two};
 ghost use Rattle.prettyless_doc.specs.BuildErrors.{IsMemory};
 ghost use Rattle.prettyless_doc.specs.DocTree.{tree_of};
-ghost use Rattle.prettyless_doc.specs.Parts.{around, of_two, parts_tree};
+ghost use Rattle.prettyless_doc.specs.Parts.{parts_tree};
 
 use crate::doc::{Doc, DocPtr};
 use crate::text::BuildError;
-use prettyless_model::choice::{ColumnTest, NestingTest};
+use prettyless_model::choice::ChoiceTest;
+use prettyless_model::kind::{Indenting, Pair, Single};
 use std::alloc::Global;
 
-/// The kinds of node that hold one document, named as the variants of `Doc`.
-#[derive(Clone, Copy)]
-pub enum Single {
-    LineSuffix,
-    /// With the columns by which it moves the indent.
-    Nest(isize),
-    DedentToRoot,
-    Align,
-    Flatten,
-    Group,
-}
-
-impl Single {
+impl<'a, T: DocPtr<'a>> Doc<'a, T> {
     /// The node of this kind that holds `inner`.
-    pub fn around<'a, T: DocPtr<'a>>(self, inner: T) -> Doc<'a, T>
-        ensures { tree_of T.tree result ≡ around self (T.tree inner) }
+    pub fn around(kind: Single, inner: T) -> Self
+        ensures { tree_of T.tree result ≡ One kind (T.tree inner) }
     {
-        match self {
+        match kind {
             Single::LineSuffix => Doc::LineSuffix(inner),
-            Single::Nest(offset) => Doc::Nest(offset, inner),
-            Single::DedentToRoot => Doc::DedentToRoot(inner),
-            Single::Align => Doc::Align(inner),
+            Single::Indented(Indenting::Nest(offset)) => Doc::Nest(offset, inner),
+            Single::Indented(Indenting::DedentToRoot) => Doc::DedentToRoot(inner),
+            Single::Indented(Indenting::Align) => Doc::Align(inner),
             Single::Flatten => Doc::Flatten(inner),
             Single::Group => Doc::Group(inner),
         }
     }
-}
 
-/// The kinds of node that hold two, named as the variants of `Doc`.
-#[derive(Clone, Copy)]
-pub enum Pair {
-    Append,
-    BreakOrFlat,
-    Union,
-    PartialUnion,
-    /// With its test of the column.
-    OnColumn(ColumnTest),
-    /// With its test of the indent.
-    OnNesting(NestingTest),
-}
-
-impl Pair {
     /// The node of this kind that holds these two.
-    pub fn of<'a, T: DocPtr<'a>>(self, first: T, second: T) -> Doc<'a, T>
-        ensures { tree_of T.tree result ≡ of_two self (T.tree first) (T.tree second) }
+    pub fn of_two(kind: Pair, first: T, second: T) -> Self
+        ensures { tree_of T.tree result ≡ Two kind (T.tree first) (T.tree second) }
     {
-        match self {
+        match kind {
             Pair::Append => Doc::Append(first, second),
             Pair::BreakOrFlat => Doc::BreakOrFlat(first, second),
             Pair::Union => Doc::Union(first, second),
             Pair::PartialUnion => Doc::PartialUnion(first, second),
-            Pair::OnColumn(test) => Doc::OnColumn(test, first, second),
-            Pair::OnNesting(test) => Doc::OnNesting(test, first, second),
+            Pair::Chosen(ChoiceTest::OnColumn(test)) => Doc::OnColumn(test, first, second),
+            Pair::Chosen(ChoiceTest::OnNesting(test)) => Doc::OnNesting(test, first, second),
         }
     }
 }
@@ -99,16 +74,24 @@ pub fn parts_of<'d, 'a, T: DocPtr<'a>>(
         Doc::WeakLine => Parts::None(Doc::WeakLine),
         Doc::Append(first, second) => Parts::Two(Pair::Append, first, second),
         Doc::LineSuffix(inner) => Parts::One(Single::LineSuffix, inner),
-        Doc::Nest(offset, inner) => Parts::One(Single::Nest(*offset), inner),
-        Doc::DedentToRoot(inner) => Parts::One(Single::DedentToRoot, inner),
-        Doc::Align(inner) => Parts::One(Single::Align, inner),
+        Doc::Nest(offset, inner) => Parts::One(Single::Indented(Indenting::Nest(*offset)), inner),
+        Doc::DedentToRoot(inner) => Parts::One(Single::Indented(Indenting::DedentToRoot), inner),
+        Doc::Align(inner) => Parts::One(Single::Indented(Indenting::Align), inner),
         Doc::ExpandParent => Parts::None(Doc::ExpandParent),
         Doc::Flatten(inner) => Parts::One(Single::Flatten, inner),
         Doc::BreakOrFlat(broken, flat) => Parts::Two(Pair::BreakOrFlat, broken, flat),
         Doc::Group(inner) => Parts::One(Single::Group, inner),
         Doc::Union(first, second) => Parts::Two(Pair::Union, first, second),
         Doc::PartialUnion(first, second) => Parts::Two(Pair::PartialUnion, first, second),
-        Doc::OnColumn(test, first, second) => Parts::Two(Pair::OnColumn(*test), first, second),
-        Doc::OnNesting(test, first, second) => Parts::Two(Pair::OnNesting(*test), first, second),
+        Doc::OnColumn(test, first, second) => Parts::Two(
+            Pair::Chosen(ChoiceTest::OnColumn(*test)),
+            first,
+            second,
+        ),
+        Doc::OnNesting(test, first, second) => Parts::Two(
+            Pair::Chosen(ChoiceTest::OnNesting(*test)),
+            first,
+            second,
+        ),
     })
 }

@@ -2,6 +2,8 @@ ghost use Rattle.std.specs.Prelude.{false};
 ghost use Rattle.prettyless_doc.specs.DocTree.{tree_of};
 
 use crate::doc::{Doc, DocPtr};
+use prettyless_model::choice::ChoiceTest;
+use prettyless_model::kind::{Indenting, Pair, Single};
 use prettyless_model::mode::Mode;
 use prettyless_probe::walk::{View, Walk};
 use prettyless_summary::summary::Summary;
@@ -42,27 +44,38 @@ impl<'d, 'a, T: DocPtr<'a>> Walk for &'d Doc<'a, T> {
             Doc::WeakSpace => View::WeakSpace,
             Doc::HardLine => View::HardLine,
             Doc::WeakLine => View::WeakLine,
-            Doc::Append(ref left, ref right) => View::Append(left.doc(), right.doc()),
-            Doc::LineSuffix(ref inner) => View::LineSuffix(inner.doc()),
-            Doc::Nest(offset, ref inner) => View::Nest(offset, inner.doc()),
-            Doc::DedentToRoot(ref inner) => View::DedentToRoot(inner.doc()),
-            Doc::Align(ref inner) => View::Align(inner.doc()),
             Doc::ExpandParent => View::ExpandParent,
-            Doc::Flatten(ref inner) => View::Flatten(inner.doc()),
-            Doc::BreakOrFlat(ref broken, ref flat) => View::BreakOrFlat(broken.doc(), flat.doc()),
-            Doc::Group(ref inner) => View::Group(inner.doc()),
-            Doc::Union(ref first, ref second) => View::Union(first.doc(), second.doc()),
-            Doc::PartialUnion(ref first, ref second) => View::PartialUnion(
+            Doc::LineSuffix(ref inner) => View::One(Single::LineSuffix, inner.doc()),
+            Doc::Nest(offset, ref inner) => View::One(
+                Single::Indented(Indenting::Nest(offset)),
+                inner.doc(),
+            ),
+            Doc::DedentToRoot(ref inner) => View::One(
+                Single::Indented(Indenting::DedentToRoot),
+                inner.doc(),
+            ),
+            Doc::Align(ref inner) => View::One(Single::Indented(Indenting::Align), inner.doc()),
+            Doc::Flatten(ref inner) => View::One(Single::Flatten, inner.doc()),
+            Doc::Group(ref inner) => View::One(Single::Group, inner.doc()),
+            Doc::Append(ref left, ref right) => View::Two(Pair::Append, left.doc(), right.doc()),
+            Doc::BreakOrFlat(ref broken, ref flat) => View::Two(
+                Pair::BreakOrFlat,
+                broken.doc(),
+                flat.doc(),
+            ),
+            Doc::Union(ref first, ref second) => View::Two(Pair::Union, first.doc(), second.doc()),
+            Doc::PartialUnion(ref first, ref second) => View::Two(
+                Pair::PartialUnion,
                 first.doc(),
                 second.doc(),
             ),
-            Doc::OnColumn(test, ref first, ref second) => View::OnColumn(
-                test,
+            Doc::OnColumn(test, ref first, ref second) => View::Two(
+                Pair::Chosen(ChoiceTest::OnColumn(test)),
                 first.doc(),
                 second.doc(),
             ),
-            Doc::OnNesting(test, ref first, ref second) => View::OnNesting(
-                test,
+            Doc::OnNesting(test, ref first, ref second) => View::Two(
+                Pair::Chosen(ChoiceTest::OnNesting(test)),
                 first.doc(),
                 second.doc(),
             ),

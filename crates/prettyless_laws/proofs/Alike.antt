@@ -5,7 +5,9 @@ use Rattle.prettyless_model.specs.declared.options.RenderOptions.{RenderOptions}
 use Rattle.prettyless_model.specs.Tree.{Tree, Fail, Text, TextWithLen, MultilineText, WeakSpace, HardLine, WeakLine, Append, Indented}
 use Rattle.prettyless_model.specs.Tree.{ExpandParent, Flatten, BreakOrFlat, Group, Union, PartialUnion, Chosen}
 use Rattle.prettyless_model.specs.Column.{saturating_add, prospective, commit, blank, padding_fits}
-use Rattle.prettyless_model.specs.Indent.{Indenting, Align, indent_by}
+use Rattle.prettyless_model.specs.Indent.{indent_by}
+use Rattle.prettyless_model.specs.declared.kind.Indenting.{Indenting}
+use Rattle.prettyless_model.specs.declared.kind.Indenting.TheVariants.{Align}
 use Rattle.prettyless_model.specs.Choice.{choice_holds}
 use Rattle.prettyless_model.specs.Look.{Look, Answers, GoesOn, answer_of, by_mode, look, look_end, look_text, look_then}
 use Rattle.prettyless_model.specs.Metrics.{metrics}

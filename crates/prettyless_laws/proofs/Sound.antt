@@ -7,7 +7,9 @@ use Rattle.std.proofs.lemmas.List.{replicate-append-replicate}
 use Rattle.prettyless_model.specs.Spaces.{spaces}
 use Rattle.prettyless_model.specs.Tree.{Tree}
 use Rattle.prettyless_model.specs.Column.{start, saturating_add, gap, commit, blank, nested}
-use Rattle.prettyless_model.specs.Indent.{Indenting, Nest, Align, indent_by}
+use Rattle.prettyless_model.specs.Indent.{indent_by}
+use Rattle.prettyless_model.specs.declared.kind.Indenting.{Indenting}
+use Rattle.prettyless_model.specs.declared.kind.Indenting.TheVariants.{Nest, Align}
 use Rattle.prettyless_model.specs.Layout.{Entry, after_payload, next_indent, entries}
 use Rattle.prettyless_model.specs.declared.column.Column.{Column}
 use Rattle.prettyless_model.specs.declared.metrics.Metrics.{Metrics}

@@ -67,11 +67,11 @@ late_item s = Late (text_item s)
 abbrev pub numbers_with : List Item → List Item
 numbers_with between = text_item "1" ∷ (between ++ text_item "2" ∷ [])
 
--- a remark, a text, and what is between them
-abbrev pub remark_with : List Item → List Item
-remark_with between = text_item "# c" ∷ (between ++ text_item "x" ∷ [])
+-- a comment, a text, and what is between them
+abbrev pub comment_with : List Item → List Item
+comment_with between = text_item "# c" ∷ (between ++ text_item "x" ∷ [])
 
--- a text with a late remark, another text, and what is between them
+-- a text with a late comment, another text, and what is between them
 abbrev pub late_with : Item → List Item
 late_with gap = text_item "a" ∷ late_item " # c" ∷ gap ∷ text_item "b" ∷ []
 
@@ -105,9 +105,9 @@ tight_line = BreakOrFlat HardLine Nil
 abbrev pub one_number : Tree
 one_number = Group (in_turn (row_text "(") (tight_line ∷ row_text "1" ∷ BreakOrFlat (row_text ",") Nil ∷ tight_line ∷ row_text ")" ∷ []))
 
--- a text with a late remark, and a group after it
-abbrev pub late_remark : Tree
-late_remark = in_turn (row_text "a") (LineSuffix (row_text " # c") ∷ Group (Append row_line (row_text "b")) ∷ [])
+-- a text with a late comment, and a group after it
+abbrev pub late_comment : Tree
+late_comment = in_turn (row_text "a") (LineSuffix (row_text " # c") ∷ Group (Append row_line (row_text "b")) ∷ [])
 
 -- a text, or another where the first does not fit
 abbrev pub either_number : Tree

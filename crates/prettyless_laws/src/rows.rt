@@ -11,8 +11,8 @@ ghost use Rattle.prettyless_model.specs.Shows.{Mark, AreShown, apart, ended, loo
 ghost use Rattle.prettyless_laws.specs.Trace.{Ending, Indent, Gap, Source, Alternative, First, Second};
 ghost use Rattle.prettyless_laws.specs.Rows.{DoesNotHave, DoesNotShow, FailsAfter, HasNoTexts, HasTrace, IsFlatText};
 ghost use Rattle.prettyless_laws.specs.Rows.{LinedTextsStandApart, ShowsItems, ShowsNothing, WideListsAreLaidByTheirMembers};
-ghost use Rattle.prettyless_laws.specs.Rows.{WideTextsAreOnLines, accented, either_number, late_item, late_remark, late_with};
-ghost use Rattle.prettyless_laws.specs.Rows.{numbers_items, numbers_with, one_number, one_number_items, padded, remark_with, text_item};
+ghost use Rattle.prettyless_laws.specs.Rows.{WideTextsAreOnLines, accented, either_number, late_item, late_comment, late_with};
+ghost use Rattle.prettyless_laws.specs.Rows.{numbers_items, numbers_with, one_number, one_number_items, padded, comment_with, text_item};
 ghost use Rattle.prettyless_laws.specs.Rows.{text_piece, two_late, two_late_items, widely_spaced, with_empty_line};
 
 /// Each line end is followed by the indent of the next line, and each text comes after its weak spaces.
@@ -89,18 +89,18 @@ pub fn texts()
     ensures list { LinedTextsStandApart }
     ensures failed_alternative { ShowsItems 80 flat_or_failed (text_item "12345" ∷ []) (codes "12345") }
 
-    // A remark goes on to the end of its line, and the line end is shown.
-    ensures remark { ShowsItems 80 (two_lines "# c" "x") (remark_with (ended ∷ [])) (codes "# c\nx") }
-    ensures remark_weakly_ended { ShowsItems 80 (in_turn (row_text "# c") (WeakLine ∷ row_text "x" ∷ []))
-        (remark_with (ended ∷ [])) (codes "# c\nx") }
-    ensures remark_ended_twice { ShowsItems 80 (in_turn (row_text "# c") (HardLine ∷ WeakLine ∷ row_text "x" ∷ []))
-        (remark_with (ended ∷ ended ∷ [])) (codes "# c\nx") }
-    ensures space_is_no_end { DoesNotHave (in_turn (row_text "# c") (WeakSpace ∷ row_text "x" ∷ [])) (remark_with (ended ∷ [])) }
-    ensures line_is_no_end { DoesNotHave (pair "# c" "x") (remark_with (ended ∷ [])) }
+    // A comment goes on to the end of its line, and the line end is shown.
+    ensures comment { ShowsItems 80 (two_lines "# c" "x") (comment_with (ended ∷ [])) (codes "# c\nx") }
+    ensures comment_weakly_ended { ShowsItems 80 (in_turn (row_text "# c") (WeakLine ∷ row_text "x" ∷ []))
+        (comment_with (ended ∷ [])) (codes "# c\nx") }
+    ensures comment_ended_twice { ShowsItems 80 (in_turn (row_text "# c") (HardLine ∷ WeakLine ∷ row_text "x" ∷ []))
+        (comment_with (ended ∷ ended ∷ [])) (codes "# c\nx") }
+    ensures space_is_no_end { DoesNotHave (in_turn (row_text "# c") (WeakSpace ∷ row_text "x" ∷ [])) (comment_with (ended ∷ [])) }
+    ensures line_is_no_end { DoesNotHave (pair "# c" "x") (comment_with (ended ∷ [])) }
 
     // What is late comes at the end of its line, after what is on the line and before the line end.
-    ensures late_before_end { ShowsItems 2 late_remark (late_with apart) (codes "a # c\nb") }
-    ensures late_after_group { ShowsItems 80 late_remark (late_with apart) (codes "a b # c") }
+    ensures late_before_end { ShowsItems 2 late_comment (late_with apart) (codes "a # c\nb") }
+    ensures late_after_group { ShowsItems 80 late_comment (late_with apart) (codes "a b # c") }
     ensures late_in_turn { ShowsItems 80 two_late two_late_items (codes "ab #1 #2\nc") }
     ensures late_at_the_end { ShowsItems 80 (Append (row_text "a") (LineSuffix (row_text " # c")))
         (text_item "a" ∷ late_item " # c" ∷ []) (codes "a # c") }
@@ -119,7 +119,7 @@ pub fn texts()
     ensures not_joined { DoesNotShow (codes "1 2") (numbers_with []) }
     ensures not_apart { DoesNotShow (codes "12") (numbers_with (apart ∷ [])) }
     ensures not_on_one_line { DoesNotShow (codes "1\n2") (numbers_with (spaced ∷ [])) }
-    ensures not_ended { DoesNotShow (codes "# c x") (remark_with (ended ∷ [])) }
+    ensures not_ended { DoesNotShow (codes "# c x") (comment_with (ended ∷ [])) }
     ensures not_after_late { DoesNotShow (codes "a # c b") (late_with apart) }
     ensures not_beside_late { DoesNotShow (codes "a # cb") (late_with apart) }
     ensures not_late_enough { DoesNotShow (codes "a\n # c\nb") (late_with ended) }

@@ -4,6 +4,8 @@ use Rattle.prettyless_model.specs.declared.choice.ColumnTest.{ColumnTest}
 use Rattle.prettyless_model.specs.declared.choice.ColumnTest.TheVariants as by_column
 use Rattle.prettyless_model.specs.declared.choice.NestingTest.{NestingTest}
 use Rattle.prettyless_model.specs.declared.choice.NestingTest.TheVariants as by_nesting
+use Rattle.prettyless_model.specs.declared.choice.ChoiceTest.{ChoiceTest}
+use Rattle.prettyless_model.specs.declared.choice.ChoiceTest.TheVariants.{OnColumn, OnNesting}
 
 -- of the column where the next content would begin, and the indent
 abbrev pub column_holds : ColumnTest → ℕ → ℕ → Bool
@@ -15,11 +17,6 @@ column_holds by_column.IsNesting column indent = column == indent
 abbrev pub nesting_holds : NestingTest → ℕ → Bool
 nesting_holds (by_nesting.AtMost limit) indent = nat_le indent limit
 nesting_holds (by_nesting.AtLeast limit) indent = nat_le limit indent
-
--- what a choice between two documents asks: of the column, or of the indent alone
-pub data ChoiceTest : Type 0 where
-  OnColumn : ColumnTest → ChoiceTest
-  OnNesting : NestingTest → ChoiceTest
 
 -- of either, from both
 abbrev pub choice_holds : ChoiceTest → ℕ → ℕ → Bool

@@ -1,13 +1,9 @@
 -- How a node sets the indent of the document in it.
-use Rattle.std.specs.Prelude.{ℕ, ℤ}
+use Rattle.std.specs.Prelude.{ℕ}
 use Rattle.prettyless_model.specs.Column.{nested, prospective}
 use Rattle.prettyless_model.specs.declared.column.Column.{Column}
-
--- so many columns further, the root, or where the document begins
-pub data Indenting : Type 0 where
-  Nest : ℤ → Indenting
-  DedentToRoot : Indenting
-  Align : Indenting
+use Rattle.prettyless_model.specs.declared.kind.Indenting.{Indenting}
+use Rattle.prettyless_model.specs.declared.kind.Indenting.TheVariants.{Nest, DedentToRoot, Align}
 
 -- the indent that is set, from the one around the node and the column at which it stands
 abbrev pub indent_by : Indenting → ℕ → Column → ℕ

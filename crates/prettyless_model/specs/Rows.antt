@@ -46,9 +46,9 @@ in_turn d (e ∷ es) = in_turn (Append d e) es
 abbrev pub row_line : Tree
 row_line = BreakOrFlat HardLine (row_text " ")
 
--- two texts on lines of their own, each with a remark
-abbrev pub remarked_rows : Tree
-remarked_rows = in_turn (row_text "a") (LineSuffix (row_text " // 1") ∷ HardLine ∷ LineSuffix (row_text " // 2") ∷ row_text "b" ∷ [])
+-- two texts on lines of their own, each with a comment
+abbrev pub commented_rows : Tree
+commented_rows = in_turn (row_text "a") (LineSuffix (row_text " // 1") ∷ HardLine ∷ LineSuffix (row_text " // 2") ∷ row_text "b" ∷ [])
 
 -- the list of three numbers of an S-expression
 abbrev pub numbers : Tree

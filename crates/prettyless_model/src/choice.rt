@@ -1,6 +1,6 @@
 //! What a choice between two documents asks of the column or of the indent. This file knows numbers alone.
 ghost use Rattle.std.specs.Prelude.{◌≡◌};
-ghost use Rattle.prettyless_model.specs.Choice.{column_holds, nesting_holds};
+ghost use Rattle.prettyless_model.specs.Choice.{choice_holds, column_holds, nesting_holds};
 
 /// What a choice by column asks: of the column where the next content would begin, weak spaces that wait included. The
 /// first column is 0.
@@ -46,6 +46,26 @@ impl NestingTest {
         match self {
             NestingTest::AtMost(limit) => indent <= limit,
             NestingTest::AtLeast(limit) => limit <= indent,
+        }
+    }
+}
+
+/// What a choice between two documents asks: of the column, or of the indent alone.
+#[derive(Clone, Copy, Debug, PartialEq, Eq)]
+pub enum ChoiceTest {
+    OnColumn(ColumnTest),
+    OnNesting(NestingTest),
+}
+
+impl ChoiceTest {
+    /// Whether the test holds at this column, where lines have this indent.
+    #[inline]
+    pub fn holds(self, column: usize, indent: usize) -> bool
+        ensures { result ≡ choice_holds self column indent }
+    {
+        match self {
+            ChoiceTest::OnColumn(test) => test.holds(column, indent),
+            ChoiceTest::OnNesting(test) => test.holds(indent),
         }
     }
 }

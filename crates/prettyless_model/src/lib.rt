@@ -7,6 +7,7 @@
 pub mod choice;
 pub mod column;
 pub mod count;
+pub mod kind;
 pub mod laws;
 pub mod metrics;
 pub mod mode;

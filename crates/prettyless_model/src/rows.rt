@@ -10,7 +10,7 @@ ghost use Rattle.prettyless_model.specs.Layout.{layout, Whole};
 ghost use Rattle.prettyless_model.specs.Spelling.{ink, spelled_parts, spells};
 ghost use Rattle.prettyless_model.specs.Rows.{Counts, Fails, IsLaidAs, accent, at_indent, after_two, below, binding, crlf_at};
 ghost use Rattle.prettyless_model.specs.Rows.{deferred_at, flat_or_failed, in_turn, letter, letter_in_group, row_line, not_at_indent};
-ghost use Rattle.prettyless_model.specs.Rows.{noted, numbers, pair, remarked_rows, tail, row_text, tight_pair, two_lines};
+ghost use Rattle.prettyless_model.specs.Rows.{noted, numbers, pair, commented_rows, tail, row_text, tight_pair, two_lines};
 
 /// A group is laid on one line where it fits, and is broken where it does not.
 pub fn groups()
@@ -84,7 +84,7 @@ pub fn payloads()
 
 /// A line suffix waits for the next break, or for the end.
 pub fn line_suffixes()
-    ensures before_break { IsLaidAs 5 remarked_rows (codes "a // 1\nb // 2") }
+    ensures before_break { IsLaidAs 5 commented_rows (codes "a // 1\nb // 2") }
     ensures in_group { IsLaidAs 5
         (Group (in_turn (row_text "a") (LineSuffix (row_text " // 1") ∷ row_line ∷ LineSuffix (row_text " // 2") ∷ row_text "b" ∷ [])))
         (codes "a b // 1 // 2") }
@@ -184,8 +184,8 @@ pub fn failures()
 
 /// What documents spell, with line suffixes and by every choice, and what bytes have of it.
 pub fn contents()
-    ensures spelled { spells remarked_rows (codes "a//1//2b") }
-    ensures parted { spelled_parts remarked_rows (codes "ab") (codes "//1//2") }
+    ensures spelled { spells commented_rows (codes "a//1//2b") }
+    ensures parted { spelled_parts commented_rows (codes "ab") (codes "//1//2") }
     ensures written { ink (codes "a // 1\nb // 2") ≡ codes "a//1b//2" }
     ensures by_every_choice { spells (Union (row_text "a b") (row_text "ab")) (codes "ab") }
     ensures by_every_test { spells (letter by_column.IsNesting "a b" "ab") (codes "ab") }

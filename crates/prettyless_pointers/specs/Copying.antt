@@ -1,6 +1,6 @@
 -- A boxed document in the copying: nodes that are still to be made, the outermost first.
 use Rattle.std.specs.Prelude.{ℕ, ◌+◌, ◌*◌, List, [], ◌∷◌}
-use Rattle.prettyless_doc.specs.Parts.{around, of_two}
+use Rattle.prettyless_model.specs.Tree as t
 use Rattle.prettyless_model.specs.Tree.{Tree, size}
 use Rattle.prettyless_pointers.specs.Trees.{box_tree}
 use Rattle.prettyless_pointers.specs.declared.copying.CopyFrame.{CopyFrame}
@@ -10,9 +10,9 @@ use Rattle.prettyless_pointers.specs.declared.copying.CopyTask.TheVariants.{Copy
 
 -- the node of a frame, where what it waits for is copied as x
 abbrev pub filled : CopyFrame → Tree → Tree
-filled (Around kind) x = around kind x
-filled (First kind second) x = of_two kind x (box_tree second.now)
-filled (Second kind first) x = of_two kind (box_tree first) x
+filled (Around kind) x = t.One kind x
+filled (First kind second) x = t.Two kind x (box_tree second.now)
+filled (Second kind first) x = t.Two kind (box_tree first) x
 
 -- all that is copied, where what the innermost frame waits for is copied as x
 abbrev pub whole_copy : List CopyFrame → Tree → Tree

@@ -9,8 +9,9 @@ ghost use Rattle.prettyless_pointers.specs.Copying.{copying_work_at};
 ghost use Rattle.prettyless_pointers.specs.Trees.{box_tree};
 
 use crate::boxes::BoxDoc;
-use prettyless_doc::parts::{Pair, Parts, Single, parts_of};
+use prettyless_doc::parts::{Parts, parts_of};
 use prettyless_doc::{BuildError, Doc, DocPtr};
+use prettyless_model::kind::{Pair, Single};
 use std::alloc::Global;
 
 // A node that is made once what it holds is copied.
@@ -102,12 +103,12 @@ fn fill<'d, 'a>(
     ensures err { IfErr result IsMemory }
 {
     match frame {
-        CopyFrame::Around(kind) => put(alloc, kind.around(copy)),
+        CopyFrame::Around(kind) => put(alloc, Doc::around(kind, copy)),
         CopyFrame::First(kind, second) => {
             push(frames, CopyFrame::Second(kind, copy))?;
             Ok(CopyTask::Copy(second))
         }
-        CopyFrame::Second(kind, first) => put(alloc, kind.of(first, copy)),
+        CopyFrame::Second(kind, first) => put(alloc, Doc::of_two(kind, first, copy)),
     }
 }
 

@@ -11,7 +11,11 @@ use Rattle.prettyless_sink.specs.declared.error.RenderError.TheVariants.{Sink}
 use Rattle.prettyless_sink.specs.declared.visits.Visits.{Visits}
 use Rattle.prettyless_model.specs.declared.options.RenderOptions.{RenderOptions}
 use Rattle.prettyless_model.specs.declared.mode.Mode.TheVariants.{Flat}
-use Rattle.prettyless_model.specs.Tree.{Tree, Nil, Text, Append, Nest, Group, BreakOrFlat, size}
+use Rattle.prettyless_model.specs.Tree.{Tree, Nil, Text, Append, Nest, Group, BreakOrFlat, One, Two, size}
+use Rattle.prettyless_model.specs.declared.kind.Pair.{Pair}
+use Rattle.prettyless_model.specs.declared.kind.Single.{Single}
+use Rattle.prettyless_model.specs.declared.kind.Single.TheVariants as one
+use Rattle.prettyless_model.specs.declared.kind.Indenting.TheVariants as by
 use Rattle.prettyless_model.specs.Column.{gap, nested, prospective, saturating_add}
 use Rattle.prettyless_model.specs.Spaces.{spaces}
 use Rattle.prettyless_model.specs.Layout.{State}
@@ -266,7 +270,7 @@ append_gives_way l r = record {
   unasked = refl;
 }
 
-pub nest_gives_way : (k : ℤ) (c : Tree) → GivesWay (Nest k c) (c ∷ [])
+nest_gives_way : (k : ℤ) (c : Tree) → GivesWay (Nest k c) (c ∷ [])
 nest_gives_way k c = record {
   indents = λ i. nested i k ∷ [];
   first = λ i is ds. refl;
@@ -277,7 +281,7 @@ nest_gives_way k c = record {
   unasked = refl;
 }
 
-pub group_gives_way : (c : Tree) → GivesWay (Group c) (c ∷ [])
+group_gives_way : (c : Tree) → GivesWay (Group c) (c ∷ [])
 group_gives_way c = record {
   indents = λ i. i ∷ [];
   first = λ i is ds. refl;
@@ -287,6 +291,15 @@ group_gives_way c = record {
   texts = λ h. All-cons IsTexts c [] h (All-nil IsTexts);
   unasked = refl;
 }
+
+-- of the nodes that hold one document these alone are texts
+pub one_gives_way : (kind : Single) (c : Tree) → IsTexts (One kind c) → GivesWay (One kind c) (c ∷ [])
+one_gives_way one.LineSuffix c h = absurd h
+one_gives_way (one.Indented (by.Nest k)) c h = nest_gives_way k c
+one_gives_way (one.Indented by.DedentToRoot) c h = absurd h
+one_gives_way (one.Indented by.Align) c h = absurd h
+one_gives_way one.Flatten c h = absurd h
+one_gives_way one.Group c h = group_gives_way c
 
 pub either_gives_way : (b c : Tree) → GivesWay (BreakOrFlat b c) (c ∷ [])
 either_gives_way b c = record {
@@ -599,6 +612,20 @@ room_append {d} {room} ds l r e h =
     let k : trees_waiting (Append l r ∷ ds) ≤ room = subst (λ (z : Tree). trees_waiting (z ∷ ds) ≤ room) (sym e) h in
     let longer : length ds + 1 ≡ length (r ∷ ds) = omega arith in
     omega (arith, k, ap (texts_waiting l) longer)
+
+-- a node of one document makes no other wait
+pub room_one : {room : ℕ} (ds : List Tree) (kind : Single) (c : Tree) → IsTexts (One kind c) → trees_waiting (One kind c ∷ ds) ≤ room
+    → trees_waiting (c ∷ ds) ≤ room
+room_one ds one.LineSuffix c h r = absurd h
+room_one ds (one.Indented (by.Nest k)) c h r = r
+room_one ds (one.Indented by.DedentToRoot) c h r = absurd h
+room_one ds (one.Indented by.Align) c h r = absurd h
+room_one ds one.Flatten c h r = absurd h
+room_one ds one.Group c h r = r
+
+-- a node of two documents, where its kind is known
+pub of_kind : {kind known : Pair} {l r d : Tree} → kind ≡ known → Two kind l r ≡ d → Two known l r ≡ d
+of_kind {kind} {known} {l} {r} {d} e h = subst (λ (k : Pair). Two k l r ≡ d) e h
 
 -- whether a text is empty
 pub some_bytes : (b : Bool) (s : List ℕ) → b ≡ (length s == 0) → b ≡ false → 0 < length s

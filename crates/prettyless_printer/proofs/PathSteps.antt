@@ -21,7 +21,7 @@ use Rattle.prettyless_printer.specs.Trials.{Tries}
 use Rattle.prettyless_printer.specs.Visits.{Plain, Rise, CountsAtMost}
 use Rattle.prettyless_printer.specs.AtLeast.{CountsAtLeast, stack_tally}
 use Rattle.prettyless_printer.specs.Renders.{rest_of, Stopped, RunsCommands}
-use Rattle.prettyless_printer.specs.Paths.{Run, Path, PathToChoice, RunError, run_of}
+use Rattle.prettyless_printer.specs.Paths.{Aim, Path, PathToChoice, RunError, run_of}
 use Rattle.prettyless_printer.proofs.Progresses.{inside_beginning, inside_end, choice_next_beginning}
 use Rattle.prettyless_printer.proofs.Standings.{Pushed}
 use Rattle.prettyless_printer.proofs.Turnings.{beginning_less}
@@ -33,7 +33,7 @@ use Rattle.prettyless_printer.proofs.AtLeast.{at_least_same, at_least_then, at_l
 -- ---- One turn
 
 -- what a turn says of every whole, at the whole of a run
-pub at_run : {r : Run} {a : Point} (goal : RenderOptions → Outcome → ℕ → List Task → List ℕ → Type 0) → Path r a
+pub at_run : {r : Aim} {a : Point} (goal : RenderOptions → Outcome → ℕ → List Task → List ℕ → Type 0) → Path r a
     → length r.below < length a.printer.tasks → IsSome r.start.sink.bytes →
     ForWholes a.printer (known a.sink.bytes) (goal a.printer.options)
     → goal r.start.printer.options r.whole r.limit r.below (known r.start.sink.bytes)
@@ -57,7 +57,7 @@ record PathStep (a b : Point) : Type 0 where
   at_most : Plain a.printer → Plain b.printer × CountsAtMost a.printer.tasks b.printer.tasks a.visits b.visits
   at_least : (n : ℕ) → n < length a.printer.tasks → CountsAtLeast (stack_tally a.printer n) (stack_tally b.printer n) a.visits b.visits
 
-path_step : {r : Run} {a b : Point} → Path r a → length r.below < length a.printer.tasks → PathStep a b → Path r b
+path_step : {r : Aim} {a b : Point} → Path r a → length r.below < length a.printer.tasks → PathStep a b → Path r b
 path_step {r} {a} {b} p l h = record {
   options = h.options ∙ p.options;
   queue = begins-grows r.queue a.printer b.printer p.queue h.grows;
@@ -82,7 +82,7 @@ path_step {r} {a} {b} p l h = record {
 }
 
 -- a turn that goes on
-pub goes_on : {N E : Type 0} (f : N → Tree) {r : Run} {a b : Point} → Path r a → length r.below < length a.printer.tasks →
+pub goes_on : {N E : Type 0} (f : N → Tree) {r : Aim} {a b : Point} → Path r a → length r.below < length a.printer.tasks →
     Advances {N = N} {E = E} f a b (Ok turn_result.Complete) → Path r b
 goes_on f p l h =
     path_step p l
@@ -98,7 +98,7 @@ goes_on f p l h =
     })
 
 -- a turn that stopped
-pub stops : {N E : Type 0} (f : N → Tree) {r : Run} {a b : Point} → Path r a → length r.below < length a.printer.tasks →
+pub stops : {N E : Type 0} (f : N → Tree) {r : Aim} {a b : Point} → Path r a → length r.below < length a.printer.tasks →
     Advances {N = N} {E = E} f a b (Ok turn_result.Shift) → Path r b
 stops f p l h =
     path_step p l
@@ -114,7 +114,7 @@ stops f p l h =
     })
 
 -- a turn after which two branches are to be chosen from
-pub path_to_choice : {N E : Type 0} (f : N → Tree) {r : Run} {a b : Point} (choice : Choice N) → Path r a
+pub path_to_choice : {N E : Type 0} (f : N → Tree) {r : Aim} {a b : Point} (choice : Choice N) → Path r a
     → length r.below < length a.printer.tasks →
     Advances {N = N} {E = E} f a b (Ok (turn_result.Choice choice)) → length r.below ≤ length b.printer.tasks
     → PathToChoice r choice.indent (f choice.first) (f choice.second) b
@@ -142,7 +142,7 @@ path_to_choice f {r} {a} {b} choice p l h long = record {
 }
 
 -- a turn that ended in an error
-pub breaks_off : {N E : Type 0} (f : N → Tree) (fails : E → Type 0) {r : Run} {a b : Point} (e : RenderError E) → Path r a
+pub breaks_off : {N E : Type 0} (f : N → Tree) (fails : E → Type 0) {r : Aim} {a b : Point} (e : RenderError E) → Path r a
     → length r.below < length a.printer.tasks →
     Advances {N = N} {E = E} f a b (Err e) → RunError fails r e b
 breaks_off {E} f fails {r} {a} {b} e p l h = record {
@@ -171,7 +171,7 @@ breaks_off {E} f fails {r} {a} {b} e p l h = record {
     )
 
 -- what a turn at a node that fails says of the whole, where the sink's bytes are known
-pub at_failing : {N E : Type 0} (f : N → Tree) {r : Run} {a b : Point} → Path r a → length r.below < length a.printer.tasks
+pub at_failing : {N E : Type 0} (f : N → Tree) {r : Aim} {a b : Point} → Path r a → length r.below < length a.printer.tasks
     → Advances {N = N} {E = E} f a b (Ok turn_result.Failed) →
     IfKnown r.start.sink.bytes b.sink.bytes (λ old out. TurnHolds f r.start.printer.options b.printer out turn_result.Failed r.whole r.limit
     r.below old
@@ -187,7 +187,7 @@ at_failing f {b} p l h = λ is_known.
     )
 
 -- a turn at a node that fails
-pub fails_there : {N E : Type 0} (f : N → Tree) (fails : E → Type 0) {r : Run} {a b : Point} (e : E) → Path r a
+pub fails_there : {N E : Type 0} (f : N → Tree) (fails : E → Type 0) {r : Aim} {a b : Point} (e : E) → Path r a
     → length r.below < length a.printer.tasks →
     Advances {N = N} {E = E} f a b (Ok turn_result.Failed) → fails e → RunError fails r (Document e) b
 fails_there f fails e p l h w = record {
@@ -205,7 +205,7 @@ fails_there f fails e p l h w = record {
 -- ---- Choices
 
 -- the first branch is kept, and what the trial wrote is appended
-pub goes_on_kept : {E : Type 0} {r : Run} {b c : Point} {s t : Seen} {i : ℕ} {x y : Tree} → PathToChoice r i x y b →
+pub goes_on_kept : {E : Type 0} {r : Aim} {b c : Point} {s t : Seen} {i : ℕ} {x y : Tree} → PathToChoice r i x y b →
     Tries {E = E} i x (point_at b.printer s b.visits) (point_at c.printer t c.visits) (Ok true) → c.sink.lender ≡ b.sink.lender →
     IfKnown b.sink.bytes c.sink.bytes (λ out new. ((piece : List ℕ) → known t.bytes ≡ known s.bytes ++ piece → new ≡ out ++ piece)
     × (c.sink.failures ≡ b.sink.failures)) → Path r c
@@ -236,7 +236,7 @@ goes_on_kept {r} {b} {c} {i} {x} {y} w tries lender wrote =
     }
 
 -- the first branch is rejected, and the second one comes next
-pub goes_on_other : {E : Type 0} {r : Run} {b c : Point} {q : Standing} {s t : Seen} {i : ℕ} {x y : Tree} → PathToChoice r i x y b →
+pub goes_on_other : {E : Type 0} {r : Aim} {b c : Point} {q : Standing} {s t : Seen} {i : ℕ} {x y : Tree} → PathToChoice r i x y b →
     Tries {E = E} i x (point_at b.printer s b.visits) (point_at q t c.visits) (Ok false) → Pushed (make_task i Break y) q c.printer
     → c.sink.lender ≡ b.sink.lender →
     IfKnown b.sink.bytes c.sink.bytes (λ out new. (known t.bytes ≡ known s.bytes → new ≡ out) × (c.sink.failures ≡ b.sink.failures))
@@ -271,7 +271,7 @@ goes_on_other {r} {b} {c} {q} {s} {i} {x} {y} w tries pushed lender wrote =
     }
 
 -- a choice that is refused memory, before anything of it is written
-pub choice_refused : {E : Type 0} (fails : E → Type 0) {r : Run} {b c : Point} {i : ℕ} {x y : Tree} (e : _) → PathToChoice r i x y b
+pub choice_refused : {E : Type 0} (fails : E → Type 0) {r : Aim} {b c : Point} {i : ℕ} {x y : Tree} (e : _) → PathToChoice r i x y b
     → c.sink.lender ≡ b.sink.lender →
     IfKnown b.sink.bytes c.sink.bytes (λ out new. (new ≡ out) × (c.sink.failures ≡ b.sink.failures)) → Rise b.visits c.visits →
     (Plain b.printer → suffix_depth x ≡ 0 → CountsAtMost (make_task i Break x ∷ b.printer.tasks) [] b.visits c.visits)
@@ -295,7 +295,7 @@ choice_refused fails {r} {i} {x} {y} e w lender wrote rise counts = record {
 }
 
 -- the first branch is kept, and the sink fails at what the trial wrote
-pub choice_unwritten : {E D : Type 0} (fails : E → Type 0) {r : Run} {b c : Point} {s t : Seen} {i : ℕ} {x y : Tree} (e : E)
+pub choice_unwritten : {E D : Type 0} (fails : E → Type 0) {r : Aim} {b c : Point} {s t : Seen} {i : ℕ} {x y : Tree} (e : E)
     → PathToChoice r i x y b →
     Tries {E = D} i x (point_at b.printer s b.visits) (point_at c.printer t c.visits) (Ok true) → c.sink.lender ≡ b.sink.lender →
     IfKnown b.sink.bytes c.sink.bytes
@@ -376,7 +376,7 @@ run_ends fails {b} x p l = record {
 }
 
 -- what ends in an error where no document fails, does so where some may
-pub error_anyhow : {E : Type 0} (fails : E → Type 0) {r : Run} {b : Point} (e : RenderError E) → RunError (λ _. ⊥) r e b
+pub error_anyhow : {E : Type 0} (fails : E → Type 0) {r : Aim} {b : Point} (e : RenderError E) → RunError (λ _. ⊥) r e b
     → RunError fails r e b
 error_anyhow fails (Document e) h = record {
   same_lender = h.same_lender;

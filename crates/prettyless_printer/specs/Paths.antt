@@ -15,8 +15,8 @@ use Rattle.prettyless_printer.specs.Visits.{Plain, Rise, CountsAtMost, suffix_de
 use Rattle.prettyless_printer.specs.AtLeast.{CountsAtLeast, stack_tally, choice_tally}
 use Rattle.prettyless_printer.specs.Renders.{Stopped, rest_of}
 
--- A run: where it began, and what it is to do.
-pub record Run : Type 0 where
+-- The aim of a run: where it began, and what it is to do.
+pub record Aim : Type 0 where
   -- where it began
   pub start : Point
   -- what it lays, if it comes to its end
@@ -32,8 +32,8 @@ pub record Run : Type 0 where
   -- what it is to count
   pub tally : Weight → ℕ
 
--- A run of all commands. No trial is undone past its beginning, so it need not keep what its queue has.
-abbrev pub run_of : Point → Run
+-- That of a run of all commands. No trial is undone past its beginning, so it need not keep what its queue has.
+abbrev pub run_of : Point → Aim
 run_of a = record {
   start = a;
   whole = rest_of a.printer;
@@ -45,11 +45,11 @@ run_of a = record {
 }
 
 -- no line suffix is among the first tasks, and none was pending
-abbrev pub BeganPlain : Run → Type 0
+abbrev pub BeganPlain : Aim → Type 0
 BeganPlain r = (suffix_depths r.first ≡ 0) × ((state_at r.start.printer).pending ≡ [])
 
 -- A run has reached a point.
-pub record Path (r : Run) (b : Point) : Type 0 where
+pub record Path (r : Aim) (b : Point) : Type 0 where
   -- the options are the same
   pub options : b.printer.options ≡ r.start.printer.options
   -- the line suffixes that it leaves in the queue are there
@@ -70,7 +70,7 @@ pub record Path (r : Run) (b : Point) : Type 0 where
   pub at_least : CountsAtLeast r.tally (stack_tally b.printer (length r.below)) r.start.visits b.visits
 
 -- The same, where a choice between two branches at an indent comes next.
-pub record PathToChoice (r : Run) (i : ℕ) (x y : Tree) (b : Point) : Type 0 where
+pub record PathToChoice (r : Aim) (i : ℕ) (x y : Tree) (b : Point) : Type 0 where
   -- the options are the same
   pub options : b.printer.options ≡ r.start.printer.options
   -- the line suffixes that it leaves in the queue are there
@@ -94,7 +94,7 @@ pub record PathToChoice (r : Run) (i : ℕ) (x y : Tree) (b : Point) : Type 0 wh
   pub at_least : CountsAtLeast r.tally (choice_tally b.printer (length r.below) i x y) r.start.visits b.visits
 
 -- A run that ended in an error.
-pub record RunError {E : Type 0} (fails : E → Type 0) (r : Run) (e : RenderError E) (b : Point) : Type 0 where
+pub record RunError {E : Type 0} (fails : E → Type 0) (r : Aim) (e : RenderError E) (b : Point) : Type 0 where
   -- the sink writes through the same reference
   pub same_lender : b.sink.lender ≡ r.start.sink.lender
   -- where the sink's bytes are known, a beginning of the whole was written, as the error says
@@ -105,7 +105,7 @@ pub record RunError {E : Type 0} (fails : E → Type 0) (r : Run) (e : RenderErr
   pub at_most : BeganPlain r → CountsAtMost r.first [] r.start.visits b.visits
 
 -- A run goes on, or ends in an error.
-abbrev pub PathOrError : {A E : Type 0} → (E → Type 0) → Run → Point → Result A (RenderError E) → Type 0
+abbrev pub PathOrError : {A E : Type 0} → (E → Type 0) → Aim → Point → Result A (RenderError E) → Type 0
 PathOrError fails r b (Ok x) = Path r b
 PathOrError fails r b (Err e) = RunError fails r e b
 
@@ -114,4 +114,4 @@ pub record Chooses {A E : Type 0} (i : ℕ) (x y : Tree) (a b : Point) (r : Resu
   -- there is no more work than with both branches
   pub work_falls : OnOk r (work b.printer.tasks (state_at b.printer) ≤ 2 * (size x + size y) + work a.printer.tasks (state_at a.printer))
   -- each run in which it comes next goes on, or ends in an error; no document fails by it
-  pub runs : (run : Run) → PathToChoice run i x y a → PathOrError (λ _. ⊥) run b r
+  pub runs : (run : Aim) → PathToChoice run i x y a → PathOrError (λ _. ⊥) run b r

@@ -13,7 +13,7 @@ use Rattle.prettyless_step.specs.Steps.{pending_work}
 use Rattle.prettyless_printer.specs.Visits.{Plain, Rise, CountsAtMost, RunCountsAtMost}
 use Rattle.prettyless_printer.specs.AtLeast.{TrialCountsAtLeast, trial_tally}
 use Rattle.prettyless_printer.specs.Points.{Standing, state_at, QueueGrows, Seen, Point, work_at}
-use Rattle.prettyless_printer.specs.Paths.{BeganPlain, Path, Run, PathToChoice}
+use Rattle.prettyless_printer.specs.Paths.{Aim, BeganPlain, Path, PathToChoice}
 use Rattle.prettyless_printer.specs.Progress.{Decides}
 use Rattle.prettyless_printer.specs.declared.answer.TrialState.{TrialState}
 use Rattle.prettyless_printer.specs.declared.answer.TrialState.TheVariants.{Running, Complete, Rejected, Choice, Shift}
@@ -76,8 +76,8 @@ pub record Trial : Type 0 where
 abbrev pub make_trial : Point → ℕ → Tree → Trial
 make_trial a i d = record { start = a; indent = i; branch = d }
 
--- A trial of a branch at an indent, as a run.
-abbrev pub trial_run : Trial → Run
+-- The aim of a trial of a branch at an indent, which is a run.
+abbrev pub trial_run : Trial → Aim
 trial_run t = record {
   start = t.start;
   whole = trial_of t.start.printer t.indent t.branch;

@@ -11,6 +11,7 @@ ghost use Rattle.prettyless_printer.specs.Laying.{Laying, ends_turn, laid_to};
 
 use prettyless_model::column::Column;
 use prettyless_model::count::one_more;
+use prettyless_model::kind::Pair;
 use prettyless_probe::walk::{View, Walk};
 use prettyless_sink::pieces::write_gap_and_text;
 use prettyless_sink::render::Render;
@@ -76,12 +77,16 @@ pub(crate) fn lay_texts<N: Walk, W: Render>(
     'nodes: loop {
         count = one_more(count);
         match node.view() {
-            View::Append(l, r) => {
+            View::Two(Pair::Append, l, r) => {
                 printer.flat.push_reserved(r);
                 node = l;
                 continue 'nodes;
             }
-            View::Nest(_, inner) | View::Group(inner) | View::BreakOrFlat(_, inner) => {
+            View::Two(Pair::BreakOrFlat, _, flat) => {
+                node = flat;
+                continue 'nodes;
+            }
+            View::One(_, inner) => {
                 node = inner;
                 continue 'nodes;
             }

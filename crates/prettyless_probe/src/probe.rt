@@ -25,8 +25,10 @@ use crate::command::{Command, nested_indent};
 use crate::stack::{Cursor, Stack};
 use crate::summed::{visit_by_parts, visit_by_sums};
 use crate::walk::{View, Walk};
+use prettyless_model::choice::ChoiceTest;
 use prettyless_model::column::Column;
 use prettyless_model::count::one_more;
+use prettyless_model::kind::{Indenting, Pair, Single};
 use prettyless_model::metrics::Metrics;
 use prettyless_model::mode::Mode;
 use prettyless_summary::summary::Summary;
@@ -178,14 +180,6 @@ fn done<N>(within: bool) -> ProbeStep<N>
     }
 }
 
-// Goes on with the document of a nesting.
-#[inline(always)]
-fn read_nested<N>(indent: usize, offset: isize, mode: Mode, inner: N) -> ProbeStep<N>
-    ensures { result ≡ Descend (nested indent offset) mode inner }
-{
-    ProbeStep::Descend(nested_indent(indent, offset), mode, inner)
-}
-
 // The branch of a union that is read: the first where lines are flat, else the second.
 #[inline(always)]
 fn branch<N: Copy>(mode: Mode, first: N, second: N) -> N
@@ -229,39 +223,41 @@ pub(crate) fn probe_one<N: Walk>(
         }
         View::HardLine => Ok(ProbeStep::Answer(read_line_end(width, line, mode))),
         View::WeakLine => Ok(answered(read_weak_line(width, line, mode))),
-        View::LineSuffix(_) => {
-            line.pending = true;
-            Ok(ProbeStep::Silent)
-        }
         View::ExpandParent => match mode {
             Mode::Break => Ok(ProbeStep::Silent),
             Mode::Flat => Ok(ProbeStep::Answer(false)),
         },
-        View::Append(first, second) => {
+        View::One(Single::LineSuffix, _) => {
+            line.pending = true;
+            Ok(ProbeStep::Silent)
+        }
+        View::One(Single::Indented(how), inner) => Ok(ProbeStep::Descend(
+            how.indent(indent, line.column),
+            mode,
+            inner,
+        )),
+        View::One(Single::Group, inner) => Ok(ProbeStep::Descend(indent, mode, inner)),
+        View::One(Single::Flatten, inner) => Ok(ProbeStep::Descend(indent, Mode::Flat, inner)),
+        View::Two(Pair::Append, first, second) => {
             stack.put(indent, mode, second)?;
             Ok(ProbeStep::Descend(indent, mode, first))
         }
-        View::Nest(offset, inner) => Ok(read_nested(indent, offset, mode, inner)),
-        View::DedentToRoot(inner) => Ok(ProbeStep::Descend(0, mode, inner)),
-        View::Align(inner) => Ok(ProbeStep::Descend(line.column.prospective(), mode, inner)),
-        View::Group(inner) => Ok(ProbeStep::Descend(indent, mode, inner)),
-        View::Flatten(inner) => Ok(ProbeStep::Descend(indent, Mode::Flat, inner)),
-        View::BreakOrFlat(broken, flat) => Ok(ProbeStep::Descend(
+        View::Two(Pair::BreakOrFlat, broken, flat) => Ok(ProbeStep::Descend(
             indent,
             mode,
             either(mode, broken, flat),
         )),
-        View::Union(first, second) | View::PartialUnion(first, second) => {
+        View::Two(Pair::Union | Pair::PartialUnion, first, second) => {
             Ok(ProbeStep::Descend(indent, mode, branch(mode, first, second)))
         }
-        View::OnColumn(test, first, second) => {
+        View::Two(Pair::Chosen(ChoiceTest::OnColumn(test)), first, second) => {
             Ok(ProbeStep::Descend(
                 indent,
                 mode,
                 by_column(test, line.column, indent, first, second),
             ))
         }
-        View::OnNesting(test, first, second) => {
+        View::Two(Pair::Chosen(ChoiceTest::OnNesting(test)), first, second) => {
             Ok(ProbeStep::Descend(indent, mode, by_nesting(test, indent, first, second)))
         }
     }
@@ -397,7 +393,7 @@ fn visit_one<N: Walk>(
         (room_of stack.new) (read_in stack.new a) (stack_of N.tree stack.new)) }
 {
     match node.view() {
-        View::Append(first, second) => {
+        View::Two(Pair::Append, first, second) => {
             stack.put_in(second)?;
             Ok(FrameStep::Descend(first))
         }
@@ -408,23 +404,25 @@ fn visit_one<N: Walk>(
                 Ok(FrameStep::Answer(false))
             }
         }
-        View::BreakOrFlat(broken, flat) => Ok(FrameStep::Descend(either(
+        View::Two(Pair::BreakOrFlat, broken, flat) => Ok(FrameStep::Descend(either(
             stack.mode_in(),
             broken,
             flat,
         ))),
-        View::Nest(offset, inner) => {
+        View::One(Single::Indented(Indenting::Nest(offset)), inner) => {
             stack.enter(nested_indent(stack.indent_in(), offset), stack.mode_in())?;
             Ok(FrameStep::Descend(inner))
         }
-        View::Group(inner) => Ok(FrameStep::Descend(inner)),
+        View::One(Single::Group, inner) => Ok(FrameStep::Descend(inner)),
         View::HardLine => Ok(FrameStep::Answer(read_line_end(width, &line.get(), stack.mode_in()))),
         View::Nil => Ok(FrameStep::Silent),
-        View::OnColumn(test, first, second) => {
-            *is_texts = with_other(*is_texts, stack.mode_in());
-            let column = line.get().column;
-            Ok(FrameStep::Descend(by_column(test, column, stack.indent_in(), first, second)))
-        }
+        // Where nodes have no summaries, choices are seldom met, and documents without one took a twelfth longer with this arm.
+        View::Two(Pair::Chosen(ChoiceTest::OnColumn(test)), first, second) if N::has_summaries() =>
+            {
+                *is_texts = with_other(*is_texts, stack.mode_in());
+                let column = line.get().column;
+                Ok(FrameStep::Descend(by_column(test, column, stack.indent_in(), first, second)))
+            }
         _ => visit_other(width, line, node, stack, is_texts),
     }
 }

@@ -121,6 +121,7 @@ fn read_on<N: Walk>(
 
 // Goes on after a result, up to an answer: with the node that is read next, what is on the stack, and then the printer's commands
 // downwards. Of each node it reads the summary where there is one, and else the node. Each of these and each sum is counted in `probes`.
+#[inline(always)]
 #[tactic(auto, using(crate::proofs::Sizes::size_positive, crate::proofs::Counting::some_read))]
 fn read_rest<N: Walk>(
     width: usize,
@@ -168,6 +169,7 @@ fn read_rest<N: Walk>(
 
 /// Reads a line by a summary, then what is on the stack and the printer's commands downwards, up to an answer. The summary, each node
 /// that is read and each sum is counted in `probes`.
+#[inline(always)]
 pub(crate) fn visit_by_sums<N: Walk>(
     width: usize,
     start: ProbeLine,
@@ -205,7 +207,10 @@ pub(crate) fn visit_by_sums<N: Walk>(
 }
 
 /// Visits a node, what is on the stack, and then the printer's commands downwards, up to an answer. Of each node it reads the summary
-/// where there is one, and else the node. Each of these and each sum is counted in `probes`.
+/// where there is one, and else the node. Each of these and each sum is counted in `probes`. It is not copied into `probe`, which seldom
+/// takes this way.
+#[cold]
+#[inline(never)]
 #[tactic(auto, using(crate::proofs::Sizes::size_positive, crate::proofs::Counting::some_read))]
 pub(crate) fn visit_by_parts<N: Walk>(
     width: usize,

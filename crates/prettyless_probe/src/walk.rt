@@ -4,12 +4,12 @@ ghost use Rattle.prettyless_model.specs.Tree.{Tree, size};
 ghost use Rattle.prettyless_probe.specs.View.{IsMeasured, view_tree};
 ghost use Rattle.prettyless_summary.specs.Summary.{FoundIf, HasSummaries, IsFound, IsKnown, has_summary};
 
-use prettyless_model::choice::{ColumnTest, NestingTest};
+use prettyless_model::kind::{Pair, Single};
 use prettyless_model::metrics::Metrics;
 use prettyless_model::mode::Mode;
 use prettyless_summary::summary::Summary;
 
-/// One node, as the printer sees it: its variant, its text and its children. Widths are columns.
+/// One node, as the printer sees it: its variant with its text, or how it holds other nodes, and these. Widths are columns.
 #[derive(Drop)]
 pub enum View<'v, N> {
     Nil,
@@ -21,19 +21,9 @@ pub enum View<'v, N> {
     WeakSpace,
     HardLine,
     WeakLine,
-    Append(N, N),
-    LineSuffix(N),
-    Nest(isize, N),
-    DedentToRoot(N),
-    Align(N),
     ExpandParent,
-    Flatten(N),
-    BreakOrFlat(N, N),
-    Group(N),
-    Union(N, N),
-    PartialUnion(N, N),
-    OnColumn(ColumnTest, N, N),
-    OnNesting(NestingTest, N, N),
+    One(Single, N),
+    Two(Pair, N, N),
 }
 
 /// A node that the printer can walk.

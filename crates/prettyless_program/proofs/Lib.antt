@@ -1,9 +1,9 @@
-pub mod Codes
 pub mod Encoding
 pub mod Items
 pub mod OneDocument
 pub mod NoDocument
 pub mod Operands
 pub mod Reaching
+pub mod Reading
 pub mod Runs
 pub mod Same

@@ -2,7 +2,8 @@
 use Rattle.std.proofs.Common.{◌≡◌, ◌∙◌, List, [], ◌∷◌, ◌++◌, append-nil, refl, sym, ap, Some}
 use Rattle.prettyless_model.specs.Tree.{Tree}
 use Rattle.prettyless_program.specs.Laws.{WriteAtMostOne}
-use Rattle.prettyless_program.specs.Programs.{Instruction, then_made, encoded, run, whole}
+use Rattle.prettyless_program.specs.Instructions.{Instruction}
+use Rattle.prettyless_program.specs.Programs.{then_made, encoded, run, whole}
 use Rattle.prettyless_program.proofs.Same.{goes_on}
 
 some_tree : (d e : Tree) → Some d ≡ Some e → d ≡ e

@@ -2,7 +2,8 @@
 use Rattle.std.proofs.Common.{◌≡◌, ◌∙◌, ℕ, List, [], ◌∷◌, ◌++◌, append_assoc, append-nil, refl, sym, ap, Option, Some}
 use Rattle.prettyless_model.specs.Tree.{Tree}
 use Rattle.prettyless_program.specs.Faults.{Reaches, RefusesProgram, Stops}
-use Rattle.prettyless_program.specs.Programs.{Instruction, CodeItem, IsWritable, WritesDocument, then_made, written, encoded, run}
+use Rattle.prettyless_program.specs.Instructions.{Instruction}
+use Rattle.prettyless_program.specs.Programs.{CodeItem, IsWritable, WritesDocument, then_made, written, encoded, run}
 use Rattle.prettyless_program.specs.Programs.{item_step, whole}
 use Rattle.prettyless_program.specs.declared.fault.Fault.{Fault}
 use Rattle.prettyless_program.proofs.NoDocument.{writes_none}

@@ -1,7 +1,8 @@
 -- Instructions that are followed one after the other.
 use Rattle.std.proofs.Common.{◌≡◌, ◌∙◌, ℕ, List, [], ◌∷◌, ◌++◌, append_assoc, refl, sym, ap, Option, Some, None}
 use Rattle.std.specs.List.{AllByRecursion}
-use Rattle.prettyless_program.specs.Programs.{Instruction, CodeItem, IsWritable, written, encoded, then_made, run, item_step}
+use Rattle.prettyless_program.specs.Instructions.{Instruction}
+use Rattle.prettyless_program.specs.Programs.{CodeItem, IsWritable, written, encoded, then_made, run, item_step}
 
 -- a step, and then two more
 and_then-assoc : (o : Option (List CodeItem)) (f g : List CodeItem → Option (List CodeItem)) →

@@ -1,41 +1,42 @@
--- The byte that stands for each operation. A code is for ever: new ones may come, and none changes.
+-- The byte that an instruction begins with. A code is for ever: new ones may come, and none changes.
 use Rattle.std.specs.Prelude.{ℕ}
-use Rattle.prettyless_program.specs.declared.operation.Operation.{Operation}
-use Rattle.prettyless_program.specs.declared.operation.Operation.TheVariants as operation
-use Rattle.prettyless_program.specs.declared.operation.Leaf.TheVariants as leaf
-use Rattle.prettyless_program.specs.declared.operation.Words.TheVariants as words
-use Rattle.prettyless_program.specs.declared.operation.Wrapper.TheVariants as wrapper
-use Rattle.prettyless_program.specs.declared.operation.Join.TheVariants as join
-use Rattle.prettyless_program.specs.declared.operation.Choice.TheVariants as choice
+use Rattle.prettyless_model.specs.declared.choice.ColumnTest.TheVariants as by_column
+use Rattle.prettyless_model.specs.declared.choice.NestingTest.TheVariants as by_nesting
+use Rattle.prettyless_model.specs.declared.kind.Indenting.TheVariants as by
+use Rattle.prettyless_model.specs.declared.kind.Single.TheVariants as one
+use Rattle.prettyless_model.specs.declared.kind.Pair.TheVariants as two
+use Rattle.prettyless_program.specs.declared.instruction.Leaf.TheVariants as leaf
+use Rattle.prettyless_program.specs.declared.instruction.Words.TheVariants as words
+use Rattle.prettyless_program.specs.Instructions.{Instruction, Put, Write, Count, Wrap, Nest, Both, OnColumn, OnNesting, Open, Close}
 
--- the code of an operation
-abbrev pub code_of : Operation → ℕ
-code_of (operation.Leaf leaf.Nil) = 0
-code_of (operation.Leaf leaf.Fail) = 1
-code_of (operation.Leaf leaf.WeakSpace) = 2
-code_of (operation.Leaf leaf.HardLine) = 3
-code_of (operation.Leaf leaf.WeakLine) = 4
-code_of (operation.Leaf leaf.ExpandParent) = 5
-code_of (operation.Leaf leaf.Line) = 6
-code_of (operation.Leaf leaf.LineOrNil) = 7
-code_of (operation.Words words.Measured) = 16
-code_of (operation.Words words.Ascii) = 17
-code_of operation.Counted = 18
-code_of (operation.Words words.Multiline) = 19
-code_of (operation.Wrap wrapper.Group) = 32
-code_of (operation.Wrap wrapper.Flatten) = 33
-code_of (operation.Wrap wrapper.Align) = 34
-code_of (operation.Wrap wrapper.DedentToRoot) = 35
-code_of (operation.Wrap wrapper.LineSuffix) = 36
-code_of operation.Nest = 37
-code_of (operation.Join join.Append) = 48
-code_of (operation.Join join.BreakOrFlat) = 49
-code_of (operation.Join join.Union) = 50
-code_of (operation.Join join.PartialUnion) = 51
-code_of (operation.Choose choice.ColumnAtMost) = 52
-code_of (operation.Choose choice.ColumnAtLeast) = 53
-code_of (operation.Join join.OnIndent) = 54
-code_of (operation.Choose choice.NestingAtMost) = 55
-code_of (operation.Choose choice.NestingAtLeast) = 56
-code_of operation.Open = 64
-code_of operation.Close = 65
+-- the code of an instruction
+abbrev pub code_of : Instruction → ℕ
+code_of (Put leaf.Nil) = 0
+code_of (Put leaf.Fail) = 1
+code_of (Put leaf.WeakSpace) = 2
+code_of (Put leaf.HardLine) = 3
+code_of (Put leaf.WeakLine) = 4
+code_of (Put leaf.ExpandParent) = 5
+code_of (Put leaf.Line) = 6
+code_of (Put leaf.LineOrNil) = 7
+code_of (Write words.Measured s) = 16
+code_of (Write words.Ascii s) = 17
+code_of (Count n s) = 18
+code_of (Write words.Multiline s) = 19
+code_of (Wrap one.Group) = 32
+code_of (Wrap one.Flatten) = 33
+code_of (Wrap (one.Indented by.Align)) = 34
+code_of (Wrap (one.Indented by.DedentToRoot)) = 35
+code_of (Wrap one.LineSuffix) = 36
+code_of (Nest k) = 37
+code_of (Both two.Append) = 48
+code_of (Both two.BreakOrFlat) = 49
+code_of (Both two.Union) = 50
+code_of (Both two.PartialUnion) = 51
+code_of (OnColumn (by_column.AtMost n)) = 52
+code_of (OnColumn (by_column.AtLeast n)) = 53
+code_of (OnColumn by_column.IsNesting) = 54
+code_of (OnNesting (by_nesting.AtMost n)) = 55
+code_of (OnNesting (by_nesting.AtLeast n)) = 56
+code_of Open = 64
+code_of Close = 65

@@ -6,14 +6,12 @@ use Rattle.std.specs.Str.{IsUtf8}
 use Rattle.prettyless_model.specs.Tree.{Tree}
 use Rattle.prettyless_program.specs.Codes.{code_of}
 use Rattle.prettyless_program.specs.Programs as programs
-use Rattle.prettyless_program.specs.Programs.{Instruction, CodeItem, WritesDocument, Fits, IsText, IsWritable, number, sized, written}
-use Rattle.prettyless_program.specs.Programs.{encoded, run}
-use Rattle.prettyless_program.specs.Programs.{item_step, whole, Close}
+use Rattle.prettyless_program.specs.Instructions.{Instruction, Write, Count, Close}
+use Rattle.prettyless_program.specs.Programs.{CodeItem, WritesDocument, Fits, IsText, IsWritable, number, sized, operands, written}
+use Rattle.prettyless_program.specs.Programs.{encoded, run, item_step, whole}
 use Rattle.prettyless_program.specs.declared.fault.Fault.{Fault}
 use Rattle.prettyless_program.specs.declared.fault.Fault.TheVariants.{Memory, Instruction as NoInstruction, Operand, Text, Document}
 use Rattle.prettyless_program.specs.declared.fault.Fault.TheVariants.{Unopened, Unclosed}
-use Rattle.prettyless_program.specs.declared.operation.Operation.{Operation}
-use Rattle.prettyless_program.specs.declared.operation.Operation.TheVariants as operation
 
 -- a text is cut off: the bytes end in its length, or before so many bytes
 abbrev pub IsTextCutOff : List ℕ → Type 0
@@ -26,14 +24,12 @@ IsTextFault Operand bytes = IsTextCutOff bytes
 IsTextFault Text bytes = (s : List ℕ) × (rest : List ℕ) × (bytes ≡ sized s ++ rest) × (length s < 2 ^ 32) × ¬ IsUtf8 s
 IsTextFault fault bytes = ⊥
 
--- the operands of an operation are cut off: the bytes end in them
-abbrev pub IsCutOff : Operation → List ℕ → Type 0
-IsCutOff (operation.Words w) bytes = IsTextCutOff bytes
-IsCutOff operation.Counted bytes = (length bytes < 8)
-    ⊎ ((n : ℕ) × (rest : List ℕ) × (n < 2 ^ 64) × (bytes ≡ number n ++ rest) × IsTextCutOff rest)
-IsCutOff operation.Nest bytes = length bytes < 8
-IsCutOff (operation.Choose c) bytes = length bytes < 8
-IsCutOff o bytes = ⊥
+-- the operands of an instruction with this one's code are cut off: the bytes end in them
+abbrev pub IsCutOff : Instruction → List ℕ → Type 0
+IsCutOff (Write w s) bytes = IsTextCutOff bytes
+IsCutOff (Count n s) bytes = (length bytes < 8)
+    ⊎ ((m : ℕ) × (rest : List ℕ) × (m < 2 ^ 64) × (bytes ≡ number m ++ rest) × IsTextCutOff rest)
+IsCutOff i bytes = length bytes < length (operands i)
 
 -- the last sequence has no document
 abbrev pub HasNoDocument : List CodeItem → Type 0
@@ -46,10 +42,10 @@ IsStuck i bytes items = IsWritable i × ((rest : List ℕ) × (bytes ≡ written
 -- What each fault says of the bytes that are left, and of the items that were made before them.
 abbrev pub Stops : Fault → List ℕ → List CodeItem → Type 0
 Stops Memory bytes items = ⊤
--- the next byte is the code of no operation
-Stops NoInstruction bytes items = (code : ℕ) × (rest : List ℕ) × (bytes ≡ code ∷ rest) × ((o : Operation) → ¬ (code ≡ code_of o))
--- the operands of the next operation are cut off
-Stops Operand bytes items = (o : Operation) × (rest : List ℕ) × (bytes ≡ code_of o ∷ rest) × IsCutOff o rest
+-- the next byte is the code of no instruction
+Stops NoInstruction bytes items = (code : ℕ) × (rest : List ℕ) × (bytes ≡ code ∷ rest) × ((i : Instruction) → ¬ (code ≡ code_of i))
+-- the next byte is the code of an instruction, and its operands are cut off
+Stops Operand bytes items = (i : Instruction) × (rest : List ℕ) × (bytes ≡ code_of i ∷ rest) × IsCutOff i rest
 -- the text of the next instruction is not UTF-8
 Stops Text bytes items = (i : Instruction) × (rest : List ℕ) × (bytes ≡ written i ++ rest) × Fits i × ¬ IsText i
 -- the next instruction takes more documents than the last sequence has

@@ -1,5 +1,6 @@
 pub mod Codes
 pub mod Faults
+pub mod Instructions
 pub mod Programs
 pub mod Made
 pub mod Laws

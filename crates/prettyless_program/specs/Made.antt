@@ -1,6 +1,7 @@
 -- The instructions and the entries of the code, as the definitions see them.
 use Rattle.std.specs.Prelude.{List, [], ◌∷◌, ◌++◌}
 use Rattle.prettyless_model.specs.Tree.{Tree}
+use Rattle.prettyless_program.specs.Instructions as instructions
 use Rattle.prettyless_program.specs.Programs as programs
 use Rattle.prettyless_program.specs.declared.instruction.Instruction.{Instruction}
 use Rattle.prettyless_program.specs.declared.instruction.Instruction.TheVariants as instruction
@@ -8,16 +9,14 @@ use Rattle.prettyless_program.specs.declared.stack.Entry.{Entry}
 use Rattle.prettyless_program.specs.declared.stack.Entry.TheVariants.{Document, Opened}
 
 -- an instruction of the code
-abbrev pub instruction_of : Instruction → programs.Instruction
-instruction_of (instruction.Leaf l) = programs.Put l
-instruction_of (instruction.Words w s) = programs.Write w s.now
-instruction_of (instruction.Counted n s) = programs.Count n s.now
-instruction_of (instruction.Wrap w) = programs.Wrap w
-instruction_of (instruction.Nest k) = programs.Nest k
-instruction_of (instruction.Join j) = programs.Both j
-instruction_of (instruction.Choose c n) = programs.Choose c n
-instruction_of instruction.Open = programs.Open
-instruction_of instruction.Close = programs.Close
+abbrev pub instruction_of : Instruction → instructions.Instruction
+instruction_of (instruction.Leaf l) = instructions.Put l
+instruction_of (instruction.Words w s) = instructions.Write w s.now
+instruction_of (instruction.Counted n s) = instructions.Count n s.now
+instruction_of (instruction.Wrap kind) = instructions.Wrap kind
+instruction_of (instruction.Both kind) = instructions.Both kind
+instruction_of instruction.Open = instructions.Open
+instruction_of instruction.Close = instructions.Close
 
 -- an entry of the code
 abbrev pub entry_item : {T : Type 0} → (T → Tree) → Entry T → programs.CodeItem

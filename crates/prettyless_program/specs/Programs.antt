@@ -1,5 +1,5 @@
 -- Programs: bytes that write a document, one instruction for each node, after those of the documents below it.
-use Rattle.std.specs.Prelude.{◌≡◌, ◌<◌, ◌^◌, ℕ, ℤ, List, [], ◌∷◌, ◌++◌, length, Bool, true, false, Option, Some, None, ⊤, FitsSigned}
+use Rattle.std.specs.Prelude.{◌≡◌, ◌<◌, ◌^◌, ℕ, List, [], ◌∷◌, ◌++◌, length, Bool, true, false, Option, Some, None, ⊤, FitsSigned}
 use Rattle.std.specs.Prelude.{if◌then◌else◌}
 use Rattle.std.specs.Int.{w32, w64, to_le_bytes, cast_unsigned}
 use Rattle.std.specs.List.{AllByRecursion}
@@ -8,55 +8,22 @@ use Rattle.prettyless_doc.specs.Counted as to
 use Rattle.prettyless_doc.specs.Lines.{line, line_}
 use Rattle.prettyless_model.specs.declared.choice.ColumnTest.TheVariants as by_column
 use Rattle.prettyless_model.specs.declared.choice.NestingTest.TheVariants as by_nesting
+use Rattle.prettyless_model.specs.declared.choice.ChoiceTest.TheVariants as ask
+use Rattle.prettyless_model.specs.declared.kind.Indenting.TheVariants as by
+use Rattle.prettyless_model.specs.declared.kind.Single.{Single}
+use Rattle.prettyless_model.specs.declared.kind.Single.TheVariants as one
+use Rattle.prettyless_model.specs.declared.kind.Pair.{Pair}
+use Rattle.prettyless_model.specs.declared.kind.Pair.TheVariants as two
 use Rattle.prettyless_model.specs.Tree as tree
-use Rattle.prettyless_model.specs.Tree.{Tree}
-use Rattle.prettyless_program.specs.declared.operation.Operation.{Operation}
-use Rattle.prettyless_program.specs.declared.operation.Operation.TheVariants as operation
-use Rattle.prettyless_program.specs.declared.operation.Leaf.{Leaf}
-use Rattle.prettyless_program.specs.declared.operation.Leaf.TheVariants as leaf
-use Rattle.prettyless_program.specs.declared.operation.Words.{Words}
-use Rattle.prettyless_program.specs.declared.operation.Words.TheVariants as words
-use Rattle.prettyless_program.specs.declared.operation.Wrapper.{Wrapper}
-use Rattle.prettyless_program.specs.declared.operation.Wrapper.TheVariants as wrapper
-use Rattle.prettyless_program.specs.declared.operation.Join.{Join}
-use Rattle.prettyless_program.specs.declared.operation.Join.TheVariants as join
-use Rattle.prettyless_program.specs.declared.operation.Choice.{Choice}
-use Rattle.prettyless_program.specs.declared.operation.Choice.TheVariants as choice
+use Rattle.prettyless_model.specs.Tree.{Tree, One, Two}
+use Rattle.prettyless_program.specs.declared.instruction.Leaf.{Leaf}
+use Rattle.prettyless_program.specs.declared.instruction.Leaf.TheVariants as leaf
+use Rattle.prettyless_program.specs.declared.instruction.Words.{Words}
+use Rattle.prettyless_program.specs.declared.instruction.Words.TheVariants as words
 use Rattle.prettyless_program.specs.Codes.{code_of}
-
--- an operation with its operands
-pub data Instruction : Type 0 where
-  -- a document that holds no other
-  Put : Leaf → Instruction
-  -- a text, by its bytes
-  Write : Words → List ℕ → Instruction
-  -- a text, and how many columns it counts as
-  Count : ℕ → List ℕ → Instruction
-  -- a node over the last document
-  Wrap : Wrapper → Instruction
-  -- the last document, with its indent moved by so many columns
-  Nest : ℤ → Instruction
-  -- a node over the last two documents
-  Both : Join → Instruction
-  -- the same, with a number of columns
-  Choose : Choice → ℕ → Instruction
-  -- what is made between these two is one document
-  Open : Instruction
-  Close : Instruction
+use Rattle.prettyless_program.specs.Instructions.{Instruction, Put, Write, Count, Wrap, Nest, Both, OnColumn, OnNesting, Open, Close}
 
 -- ---- bytes
-
--- what it does
-abbrev pub operation_in : Instruction → Operation
-operation_in (Put l) = operation.Leaf l
-operation_in (Write w s) = operation.Words w
-operation_in (Count n s) = operation.Counted
-operation_in (Wrap w) = operation.Wrap w
-operation_in (Nest k) = operation.Nest
-operation_in (Both j) = operation.Join j
-operation_in (Choose c n) = operation.Choose c
-operation_in Open = operation.Open
-operation_in Close = operation.Close
 
 -- a number in eight bytes, the lowest first
 abbrev pub number : ℕ → List ℕ
@@ -71,24 +38,39 @@ abbrev pub operands : Instruction → List ℕ
 operands (Write w s) = sized s
 operands (Count n s) = number n ++ sized s
 operands (Nest k) = number (cast_unsigned w64 k)
-operands (Choose c n) = number n
+operands (OnColumn (by_column.AtMost n)) = number n
+operands (OnColumn (by_column.AtLeast n)) = number n
+operands (OnNesting (by_nesting.AtMost n)) = number n
+operands (OnNesting (by_nesting.AtLeast n)) = number n
 operands i = []
 
 -- the bytes of an instruction
 abbrev pub written : Instruction → List ℕ
-written i = code_of (operation_in i) ∷ operands i
+written i = code_of i ∷ operands i
 
 -- the bytes of instructions, one after the other
 abbrev pub encoded : List Instruction → List ℕ
 encoded [] = []
 encoded (i ∷ is) = written i ++ encoded is
 
+-- the number of a kind fits its bytes, if it has one
+abbrev pub SingleFits : Single → Type 0
+SingleFits (one.Indented (by.Nest k)) = FitsSigned w64 k
+SingleFits kind = ⊤
+
+abbrev pub PairFits : Pair → Type 0
+PairFits (two.Chosen (ask.OnColumn (by_column.AtMost n))) = n < 2 ^ 64
+PairFits (two.Chosen (ask.OnColumn (by_column.AtLeast n))) = n < 2 ^ 64
+PairFits (two.Chosen (ask.OnNesting (by_nesting.AtMost n))) = n < 2 ^ 64
+PairFits (two.Chosen (ask.OnNesting (by_nesting.AtLeast n))) = n < 2 ^ 64
+PairFits kind = ⊤
+
 -- its numbers fit their bytes
 abbrev pub Fits : Instruction → Type 0
 Fits (Write w s) = length s < 2 ^ 32
 Fits (Count n s) = (n < 2 ^ 64) × (length s < 2 ^ 32)
-Fits (Nest k) = FitsSigned w64 k
-Fits (Choose c n) = n < 2 ^ 64
+Fits (Wrap kind) = SingleFits kind
+Fits (Both kind) = PairFits kind
 Fits i = ⊤
 
 -- its text is UTF-8, if it has one
@@ -119,29 +101,6 @@ abbrev pub text_tree : Words → List ℕ → Tree
 text_tree words.Measured s = to.text s
 text_tree words.Ascii s = tree.Text s
 text_tree words.Multiline s = to.multiline_text s
-
--- the node over a document
-abbrev pub node_over_one : Wrapper → Tree → Tree
-node_over_one wrapper.Group d = tree.Group d
-node_over_one wrapper.Flatten d = tree.Flatten d
-node_over_one wrapper.Align d = tree.Align d
-node_over_one wrapper.DedentToRoot d = tree.DedentToRoot d
-node_over_one wrapper.LineSuffix d = tree.LineSuffix d
-
--- the node over two documents
-abbrev pub node_over_two : Join → Tree → Tree → Tree
-node_over_two join.Append l r = tree.Append l r
-node_over_two join.BreakOrFlat l r = tree.BreakOrFlat l r
-node_over_two join.Union l r = tree.Union l r
-node_over_two join.PartialUnion l r = tree.PartialUnion l r
-node_over_two join.OnIndent l r = tree.OnColumn by_column.IsNesting l r
-
--- the choice between two documents, by a number of columns
-abbrev pub choice_of : Choice → ℕ → Tree → Tree → Tree
-choice_of choice.ColumnAtMost n l r = tree.OnColumn (by_column.AtMost n) l r
-choice_of choice.ColumnAtLeast n l r = tree.OnColumn (by_column.AtLeast n) l r
-choice_of choice.NestingAtMost n l r = tree.OnNesting (by_nesting.AtMost n) l r
-choice_of choice.NestingAtLeast n l r = tree.OnNesting (by_nesting.AtLeast n) l r
 
 -- ---- what instructions make
 
@@ -191,10 +150,8 @@ abbrev pub item_step : Instruction → List CodeItem → Option (List CodeItem)
 item_step (Put l) items = put (leaf_document l) items
 item_step (Write w s) items = put (text_tree w s) items
 item_step (Count n s) items = put (tree.TextWithLen n s) items
-item_step (Wrap w) items = over (node_over_one w) items
-item_step (Nest k) items = over (tree.Nest k) items
-item_step (Both j) items = over_two (node_over_two j) items
-item_step (Choose c n) items = over_two (choice_of c n) items
+item_step (Wrap kind) items = over (One kind) items
+item_step (Both kind) items = over_two (Two kind) items
 item_step Open items = Some (Opened ∷ items)
 item_step Close items = closed (gathered items)
 

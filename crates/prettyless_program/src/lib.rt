@@ -7,7 +7,6 @@ mod fault;
 mod instruction;
 pub mod laws;
 mod making;
-mod operation;
 mod reader;
 mod stack;
 

@@ -2,18 +2,16 @@
 ghost use Rattle.std.specs.Prelude.{◌≡◌, ◌∷◌, ◌++◌, ℕ, List, Some, OnOk, IfOk, IfErr};
 ghost use Rattle.prettyless_program.specs.Faults.{Stops};
 ghost use Rattle.prettyless_program.specs.Made.{instruction_of, entry_item, items_of_entries};
-ghost use Rattle.prettyless_program.specs.Programs.{Close, Document, IsWritable, choice_of as chosen_tree, node_over_two as joined_tree};
-ghost use Rattle.prettyless_program.specs.Programs.{leaf_document, item_step, text_tree, node_over_one as wrapped_tree, written};
+ghost use Rattle.prettyless_program.specs.Instructions.{Close};
+ghost use Rattle.prettyless_program.specs.Programs.{Document, IsWritable, leaf_document, item_step, text_tree, written};
 ghost use Rattle.prettyless_program.specs.declared.fault.Fault.TheVariants.{Memory};
 
 use crate::fault::Fault;
-use crate::instruction::Instruction;
-use crate::operation::{Choice, Join, Leaf, Words, Wrapper};
+use crate::instruction::{Instruction, Leaf, Words};
 use crate::stack::{Entry, gather, pop};
 use prettyless_alloc::DocAllocator;
 use prettyless_doc::text::{CowStr, Text};
 use prettyless_doc::{Doc, DocPlace};
-use prettyless_model::choice::{ColumnTest, NestingTest};
 
 /// A document that holds no other.
 #[inline(always)]
@@ -47,68 +45,6 @@ fn words<'a, D: DocPlace<'a>>(place: &'a D, words: Words, text: &'a str) -> Resu
         Words::Multiline => place.multiline_text(text),
     };
     Ok(made?.into_doc()?)
-}
-
-/// A node over one document.
-#[inline(always)]
-fn wrapped<'a, D: DocPlace<'a>>(
-    place: &'a D,
-    wrapper: Wrapper,
-    inner: D::Doc,
-) -> Result<D::Doc, Fault>
-    ensures ok { IfOk result (λ p. D.Doc.tree p ≡ wrapped_tree wrapper (D.Doc.tree inner)) }
-    ensures err { IfErr result (λ fault. fault ≡ Memory) }
-{
-    let doc = match wrapper {
-        Wrapper::Group => Doc::Group(inner),
-        Wrapper::Flatten => Doc::Flatten(inner),
-        Wrapper::Align => Doc::Align(inner),
-        Wrapper::DedentToRoot => Doc::DedentToRoot(inner),
-        Wrapper::LineSuffix => Doc::LineSuffix(inner),
-    };
-    Ok(place.alloc(doc)?)
-}
-
-/// A node over two documents.
-#[inline(always)]
-fn joined<'a, D: DocPlace<'a>>(
-    place: &'a D,
-    join: Join,
-    first: D::Doc,
-    second: D::Doc,
-) -> Result<D::Doc, Fault>
-    ensures ok { IfOk result (λ p. D.Doc.tree p ≡ joined_tree join (D.Doc.tree first) (D.Doc.tree second)) }
-    ensures err { IfErr result (λ fault. fault ≡ Memory) }
-{
-    let doc = match join {
-        Join::Append => Doc::Append(first, second),
-        Join::BreakOrFlat => Doc::BreakOrFlat(first, second),
-        Join::Union => Doc::Union(first, second),
-        Join::PartialUnion => Doc::PartialUnion(first, second),
-        Join::OnIndent => Doc::OnColumn(ColumnTest::IsNesting, first, second),
-    };
-    Ok(place.alloc(doc)?)
-}
-
-/// A choice between two documents.
-#[inline(always)]
-fn chosen<'a, D: DocPlace<'a>>(
-    place: &'a D,
-    choice: Choice,
-    columns: usize,
-    first: D::Doc,
-    second: D::Doc,
-) -> Result<D::Doc, Fault>
-    ensures ok { IfOk result (λ p. D.Doc.tree p ≡ chosen_tree choice columns (D.Doc.tree first) (D.Doc.tree second)) }
-    ensures err { IfErr result (λ fault. fault ≡ Memory) }
-{
-    let doc = match choice {
-        Choice::ColumnAtMost => Doc::OnColumn(ColumnTest::AtMost(columns), first, second),
-        Choice::ColumnAtLeast => Doc::OnColumn(ColumnTest::AtLeast(columns), first, second),
-        Choice::NestingAtMost => Doc::OnNesting(NestingTest::AtMost(columns), first, second),
-        Choice::NestingAtLeast => Doc::OnNesting(NestingTest::AtLeast(columns), first, second),
-    };
-    Ok(place.alloc(doc)?)
 }
 
 /// The documents of the innermost open sequence, one after the other. It is closed.
@@ -148,23 +84,14 @@ fn made<'a, D: DocPlace<'a>>(
             let doc = Doc::TextWithLen(columns, Text::Borrowed(text));
             Ok(Entry::Document(place.alloc(doc)?))
         }
-        Instruction::Wrap(wrapper) => {
+        Instruction::Wrap(kind) => {
             let inner = pop(entries)?;
-            Ok(Entry::Document(wrapped(place, wrapper, inner)?))
+            Ok(Entry::Document(place.alloc(Doc::around(kind, inner))?))
         }
-        Instruction::Nest(offset) => {
-            let inner = pop(entries)?;
-            Ok(Entry::Document(place.alloc(Doc::Nest(offset, inner))?))
-        }
-        Instruction::Join(join) => {
+        Instruction::Both(kind) => {
             let second = pop(entries)?;
             let first = pop(entries)?;
-            Ok(Entry::Document(joined(place, join, first, second)?))
-        }
-        Instruction::Choose(choice, columns) => {
-            let second = pop(entries)?;
-            let first = pop(entries)?;
-            Ok(Entry::Document(chosen(place, choice, columns, first, second)?))
+            Ok(Entry::Document(place.alloc(Doc::of_two(kind, first, second))?))
         }
         Instruction::Open => Ok(Entry::Opened),
         Instruction::Close => Ok(Entry::Document(sequence(place, entries)?)),

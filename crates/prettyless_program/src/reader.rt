@@ -2,15 +2,15 @@
 ghost use Rattle.std.specs.Prelude.{◌≡◌, List, ◌∷◌, ◌++◌, ◌<◌, ◌^◌, [], length, IfOk, IfErr, IfSome, IfNone, MatchOption};
 ghost use Rattle.std.specs.Int.{w32, to_le_bytes};
 ghost use Rattle.std.specs.Str.{IsUtf8};
-ghost use Rattle.prettyless_program.specs.Codes.{code_of};
 ghost use Rattle.prettyless_program.specs.Faults.{IsTextFault, Stops};
 ghost use Rattle.prettyless_program.specs.Made.{instruction_of};
 ghost use Rattle.prettyless_program.specs.Programs.{CodeItem, IsWritable, number, sized, written};
 ghost use Rattle.prettyless_program.specs.declared.fault.Fault.TheVariants.{Operand};
 
 use crate::fault::Fault;
-use crate::instruction::Instruction;
-use crate::operation::{Operation, operation_of};
+use crate::instruction::{Instruction, Leaf, Words};
+use prettyless_model::choice::{ColumnTest, NestingTest};
+use prettyless_model::kind::{Indenting, Pair, Single};
 use std::str::from_utf8;
 
 /// What is left of a program.
@@ -89,28 +89,46 @@ impl<'p> Reader<'p> {
         }
     }
 
-    /// An operation with the operands that come next.
+    /// The instruction of this code, with the operands that come next.
     #[inline(always)]
-    #[tactic(auto, using(crate::proofs::Operands::text_stops, crate::proofs::Operands::counted_stops))]
-    fn operands(&mut self, operation: Operation) -> Result<Instruction<'p>, Fault>
-        ensures ok { IfOk result (λ i. (code_of operation ∷ self.old.rest.now ≡ written (instruction_of i) ++ self.new.rest.now)
+    #[tactic(auto, using(crate::proofs::Operands::stopping))]
+    fn instruction(&mut self, code: u8) -> Result<Instruction<'p>, Fault>
+        ensures ok { IfOk result (λ i. (code ∷ self.old.rest.now ≡ written (instruction_of i) ++ self.new.rest.now)
             × IsWritable (instruction_of i)) }
-        ensures err { IfErr result (λ fault. (items : List CodeItem) → Stops fault (code_of operation ∷ self.old.rest.now) items) }
+        ensures err { IfErr result (λ fault. (items : List CodeItem) → Stops fault (code ∷ self.old.rest.now) items) }
     {
-        match operation {
-            Operation::Leaf(leaf) => Ok(Instruction::Leaf(leaf)),
-            Operation::Words(words) => Ok(Instruction::Words(words, self.text()?)),
-            Operation::Counted => {
-                let columns = self.number()?;
-                Ok(Instruction::Counted(columns, self.text()?))
-            }
-            Operation::Wrap(wrapper) => Ok(Instruction::Wrap(wrapper)),
-            Operation::Nest => Ok(Instruction::Nest(self.number()?.cast_signed())),
-            Operation::Join(join) => Ok(Instruction::Join(join)),
-            Operation::Choose(choice) => Ok(Instruction::Choose(choice, self.number()?)),
-            Operation::Open => Ok(Instruction::Open),
-            Operation::Close => Ok(Instruction::Close),
-        }
+        Ok(match code {
+            0 => Instruction::Leaf(Leaf::Nil),
+            1 => Instruction::Leaf(Leaf::Fail),
+            2 => Instruction::Leaf(Leaf::WeakSpace),
+            3 => Instruction::Leaf(Leaf::HardLine),
+            4 => Instruction::Leaf(Leaf::WeakLine),
+            5 => Instruction::Leaf(Leaf::ExpandParent),
+            6 => Instruction::Leaf(Leaf::Line),
+            7 => Instruction::Leaf(Leaf::LineOrNil),
+            16 => Instruction::Words(Words::Measured, self.text()?),
+            17 => Instruction::Words(Words::Ascii, self.text()?),
+            18 => Instruction::Counted(self.number()?, self.text()?),
+            19 => Instruction::Words(Words::Multiline, self.text()?),
+            32 => Instruction::Wrap(Single::Group),
+            33 => Instruction::Wrap(Single::Flatten),
+            34 => Instruction::Wrap(Single::Indented(Indenting::Align)),
+            35 => Instruction::Wrap(Single::Indented(Indenting::DedentToRoot)),
+            36 => Instruction::Wrap(Single::LineSuffix),
+            37 => Instruction::nest(self.number()?.cast_signed()),
+            48 => Instruction::Both(Pair::Append),
+            49 => Instruction::Both(Pair::BreakOrFlat),
+            50 => Instruction::Both(Pair::Union),
+            51 => Instruction::Both(Pair::PartialUnion),
+            52 => Instruction::on_column(ColumnTest::AtMost(self.number()?)),
+            53 => Instruction::on_column(ColumnTest::AtLeast(self.number()?)),
+            54 => Instruction::on_column(ColumnTest::IsNesting),
+            55 => Instruction::on_nesting(NestingTest::AtMost(self.number()?)),
+            56 => Instruction::on_nesting(NestingTest::AtLeast(self.number()?)),
+            64 => Instruction::Open,
+            65 => Instruction::Close,
+            _ => return Err(Fault::Instruction),
+        })
     }
 
     /// The instruction that comes next, if the program goes on.
@@ -125,9 +143,6 @@ impl<'p> Reader<'p> {
         let Some(code) = self.byte() else {
             return Ok(None);
         };
-        let Some(operation) = operation_of(code) else {
-            return Err(Fault::Instruction);
-        };
-        Ok(Some(self.operands(operation)?))
+        Ok(Some(self.instruction(code)?))
     }
 }

@@ -23,12 +23,13 @@ use crate::content::{payload_fits, put_payload, put_text};
 use crate::pending::{is_pending, take_pending};
 use crate::piece::Piece;
 use crate::printer::{Printer, StepResult};
+use prettyless_model::choice::ChoiceTest;
 use prettyless_model::column::Column;
 use prettyless_model::count::one_more;
+use prettyless_model::kind::{Pair, Single};
 use prettyless_model::mode::Mode;
 use prettyless_model::options::IndentationPolicy;
 use prettyless_probe::choice::{by_column, by_nesting, either};
-use prettyless_probe::command::nested_indent;
 use prettyless_probe::probe::{Fit, ProbeLine, probe};
 use prettyless_probe::walk::{View, Walk};
 use prettyless_sink::visits::Visits;
@@ -265,7 +266,9 @@ fn group<N: Walk>(
             Fit::Exceeds => return Ok(StepResult::Descend(indent, inner)),
             // A break alone is laid as soon by the printer's own loop.
             Fit::FitsAsTexts => match inner.view() {
-                View::BreakOrFlat(_, _) => return Ok(StepResult::DescendFlat(indent, inner)),
+                View::Two(Pair::BreakOrFlat, _, _) => return Ok(StepResult::DescendFlat(
+                    indent, inner,
+                )),
                 _ => return Ok(StepResult::DescendTexts(indent, inner)),
             },
             Fit::Fits => return Ok(StepResult::DescendFlat(indent, inner)),
@@ -410,31 +413,32 @@ pub fn step<'v, N: Walk>(
             Mode::Flat => Ok(StepResult::Failed),
         },
         View::WeakLine => break_line(printer, indent, mode, *node, true),
-        View::Append(l, r) => {
+        View::Two(Pair::Append, l, r) => {
             printer.commands.push(indent, mode, r)?;
             Ok(StepResult::Descend(indent, l))
         }
-        View::LineSuffix(d) => {
+        View::One(Single::LineSuffix, d) => {
             printer.queue.push(d)?;
             Ok(StepResult::Silent)
         }
-        View::Nest(offset, d) => Ok(StepResult::Descend(nested_indent(indent, offset), d)),
-        View::DedentToRoot(d) => Ok(StepResult::Descend(0, d)),
-        View::Align(d) => Ok(StepResult::Descend(printer.column.prospective(), d)),
-        View::Flatten(d) => Ok(StepResult::DescendFlat(indent, d)),
-        View::BreakOrFlat(b, f) => Ok(StepResult::Descend(indent, either(mode, b, f))),
-        View::Group(d) => group(printer, indent, mode, d, limit, &mut visits.probes),
-        View::Union(l, r) => match mode {
+        View::One(Single::Indented(how), d) => Ok(StepResult::Descend(
+            how.indent(indent, printer.column),
+            d,
+        )),
+        View::One(Single::Flatten, d) => Ok(StepResult::DescendFlat(indent, d)),
+        View::Two(Pair::BreakOrFlat, b, f) => Ok(StepResult::Descend(indent, either(mode, b, f))),
+        View::One(Single::Group, d) => group(printer, indent, mode, d, limit, &mut visits.probes),
+        View::Two(Pair::Union, l, r) => match mode {
             Mode::Break => union(printer, indent, l, r, visits),
             Mode::Flat => Ok(StepResult::DescendFlat(indent, l)),
         },
-        View::PartialUnion(l, r) => {
+        View::Two(Pair::PartialUnion, l, r) => {
             partial_union(printer, indent, mode, l, r, limit, &mut visits.probes)
         }
-        View::OnColumn(test, l, r) => {
+        View::Two(Pair::Chosen(ChoiceTest::OnColumn(test)), l, r) => {
             Ok(StepResult::Descend(indent, by_column(test, printer.column, indent, l, r)))
         }
-        View::OnNesting(test, l, r) => Ok(StepResult::Descend(
+        View::Two(Pair::Chosen(ChoiceTest::OnNesting(test)), l, r) => Ok(StepResult::Descend(
             indent,
             by_nesting(test, indent, l, r),
         )),

@@ -3,7 +3,8 @@ use Rattle.std.proofs.Common.{false}
 use Rattle.prettyless_model.specs.Tree as t
 use Rattle.prettyless_model.specs.Tree.{Tree}
 use Rattle.prettyless_model.specs.Column.{padding_fits}
-use Rattle.prettyless_model.specs.Indent.{Indenting, indent_by}
+use Rattle.prettyless_model.specs.Indent.{indent_by}
+use Rattle.prettyless_model.specs.declared.kind.Indenting.{Indenting}
 use Rattle.prettyless_model.specs.Look.{Answers, by_mode}
 use Rattle.prettyless_model.specs.declared.mode.Mode.{Mode}
 use Rattle.prettyless_model.specs.declared.mode.Mode.TheVariants.{Break, Flat}

@@ -3,12 +3,11 @@ use Rattle.std.proofs.Common.{◌≡◌, ℕ, zero, suc, ◌-◌, ◌<◌, ◌�
 use Rattle.std.proofs.Common.{subst, ◌∙◌, arith, length-append}
 use Rattle.std.proofs.lemmas.List.{get_or_push, get_or_append_left}
 use Rattle.std.proofs.Math.ListN.{get_or-eq_default}
-use Rattle.prettyless_model.specs.Tree.{Tree, Nil, Append, LineSuffix, Indented, Flatten, BreakOrFlat, Group, Union, PartialUnion, Chosen}
-use Rattle.prettyless_model.specs.Tree as t
+use Rattle.prettyless_model.specs.Tree.{Tree, Nil, One, Two}
 use Rattle.prettyless_table.specs.declared.cell.Cell.{Cell}
-use Rattle.prettyless_table.specs.Parts.{parts_of, small}
-use Rattle.prettyless_table.specs.Cells.{HasCell, In, KeepsBoth, Unless, no_cell, second_at, second_of}
-use Rattle.prettyless_table.specs.Stored.{FirstIn, SecondIn, IsOwn}
+use Rattle.prettyless_table.specs.Parts.{parts_of, shares, small}
+use Rattle.prettyless_table.specs.Cells.{HasCell, In, KeepsBoth, Unless, no_cell, part_at, second_at, second_of}
+use Rattle.prettyless_table.specs.Stored.{FirstIn, SecondIn, IsOwn, IsSmallIf}
 
 unless_map : (b : Bool) {P Q : Type 0} → (P → Q) → Unless b P → Unless b Q
 unless_map true g h = tt
@@ -57,73 +56,28 @@ single_stays b cells c at d g = unless_map b (λ h. (cell_stays cells c at d h.0
 
 -- a document stands where it stood, after one more cell
 pub stays : {N : Type 0} (cells : List (Cell N)) (c : Cell N) (d : Tree) (at : ℕ) → In cells d at → In (cells ++ c ∷ []) d at
-stays cells c (Append l r) at = pair_stays (small (Append l r)) cells c at (Append l r) (In cells r) (In (cells ++ c ∷ []) r)
+stays cells c (One kind d) at =
+    single_stays (small (One kind d)) cells c at (One kind d) (stays cells c d (part_at (shares kind) at))
+stays cells c (Two kind l r) at = pair_stays (small (Two kind l r)) cells c at (Two kind l r) (In cells r) (In (cells ++ c ∷ []) r)
     (stays cells c l (at - 1)) (stays cells c r)
-stays cells c (LineSuffix d) at = single_stays (small (LineSuffix d)) cells c at (LineSuffix d) (stays cells c d (at - 1))
-stays cells c (Indented how d) at = single_stays (small (Indented how d)) cells c at (Indented how d) (stays cells c d at)
-stays cells c (Flatten d) at = single_stays (small (Flatten d)) cells c at (Flatten d) (stays cells c d (at - 1))
-stays cells c (BreakOrFlat l r) at = pair_stays (small (BreakOrFlat l r)) cells c at (BreakOrFlat l r) (In cells r)
-    (In (cells ++ c ∷ []) r) (stays cells c l (at - 1)) (stays cells c r)
-stays cells c (Group d) at = single_stays (small (Group d)) cells c at (Group d) (stays cells c d at)
-stays cells c (Union l r) at = pair_stays (small (Union l r)) cells c at (Union l r) (In cells r) (In (cells ++ c ∷ []) r)
-    (stays cells c l (at - 1)) (stays cells c r)
-stays cells c (PartialUnion l r) at = pair_stays (small (PartialUnion l r)) cells c at (PartialUnion l r) (In cells r)
-    (In (cells ++ c ∷ []) r) (stays cells c l (at - 1)) (stays cells c r)
-stays cells c (Chosen test l r) at = pair_stays (small (Chosen test l r)) cells c at (Chosen test l r) (In cells r)
-    (In (cells ++ c ∷ []) r) (stays cells c l (at - 1)) (stays cells c r)
 stays cells c Nil at = λ h. h
-stays cells c t.Fail at = λ h. h
-stays cells c (t.Text s) at = λ h. h
-stays cells c (t.TextWithLen w s) at = λ h. h
-stays cells c (t.MultilineText s) at = λ h. h
-stays cells c t.WeakSpace at = λ h. h
-stays cells c t.HardLine at = λ h. h
-stays cells c t.WeakLine at = λ h. h
-stays cells c t.ExpandParent at = λ h. h
+stays cells c _ at = λ h. h
 
 -- ---- A node that is read
 
 -- a small document stands anywhere
 pub small_in : {N : Type 0} (cells : List (Cell N)) (d : Tree) (at : ℕ) → small d ≡ true → In cells d at
-small_in cells (Append l r) at e = unless_true (small (Append l r)) _ e
-small_in cells (LineSuffix d) at e = unless_true (small (LineSuffix d)) _ e
-small_in cells (Indented how d) at e = unless_true (small (Indented how d)) _ e
-small_in cells (Flatten d) at e = unless_true (small (Flatten d)) _ e
-small_in cells (BreakOrFlat l r) at e = unless_true (small (BreakOrFlat l r)) _ e
-small_in cells (Group d) at e = unless_true (small (Group d)) _ e
-small_in cells (Union l r) at e = unless_true (small (Union l r)) _ e
-small_in cells (PartialUnion l r) at e = unless_true (small (PartialUnion l r)) _ e
-small_in cells (Chosen test l r) at e = unless_true (small (Chosen test l r)) _ e
+small_in cells (One kind d) at e = unless_true (small (One kind d)) _ e
+small_in cells (Two kind l r) at e = unless_true (small (Two kind l r)) _ e
 small_in cells Nil at e = tt
-small_in cells t.Fail at e = tt
-small_in cells (t.Text s) at e = tt
-small_in cells (t.TextWithLen w s) at e = tt
-small_in cells (t.MultilineText s) at e = tt
-small_in cells t.WeakSpace at e = tt
-small_in cells t.HardLine at e = tt
-small_in cells t.WeakLine at e = tt
-small_in cells t.ExpandParent at e = tt
+small_in cells _ at e = tt
 
 -- another one has its summaries in the cell
 pub in_cell : {N : Type 0} (cells : List (Cell N)) (d : Tree) (at : ℕ) → small d ≡ false → In cells d at → HasCell cells at d
-in_cell cells (Append l r) at e h = (unless_false (small (Append l r)) _ e h).0
-in_cell cells (LineSuffix d) at e h = (unless_false (small (LineSuffix d)) _ e h).0
-in_cell cells (Indented how d) at e h = (unless_false (small (Indented how d)) _ e h).0
-in_cell cells (Flatten d) at e h = (unless_false (small (Flatten d)) _ e h).0
-in_cell cells (BreakOrFlat l r) at e h = (unless_false (small (BreakOrFlat l r)) _ e h).0
-in_cell cells (Group d) at e h = (unless_false (small (Group d)) _ e h).0
-in_cell cells (Union l r) at e h = (unless_false (small (Union l r)) _ e h).0
-in_cell cells (PartialUnion l r) at e h = (unless_false (small (PartialUnion l r)) _ e h).0
-in_cell cells (Chosen test l r) at e h = (unless_false (small (Chosen test l r)) _ e h).0
+in_cell cells (One kind d) at e h = (unless_false (small (One kind d)) _ e h).0
+in_cell cells (Two kind l r) at e h = (unless_false (small (Two kind l r)) _ e h).0
 in_cell cells Nil at e h = cc
-in_cell cells t.Fail at e h = cc
-in_cell cells (t.Text s) at e h = cc
-in_cell cells (t.TextWithLen w s) at e h = cc
-in_cell cells (t.MultilineText s) at e h = cc
-in_cell cells t.WeakSpace at e h = cc
-in_cell cells t.HardLine at e h = cc
-in_cell cells t.WeakLine at e h = cc
-in_cell cells t.ExpandParent at e h = cc
+in_cell cells _ at e h = cc
 
 -- ---- A cell that was added
 
@@ -147,39 +101,23 @@ pair_new {N} b cells c d l r keeps first second = unless_some b (
   ),
 )
 
-single_new : {N : Type 0} (b : Bool) (cells : List (Cell N)) (c : Cell N) (d e : Tree) → KeepsBoth c d → In cells e (length cells - 1)
-    → Unless b (HasCell (cells ++ c ∷ []) (length cells) d × In (cells ++ c ∷ []) e (length cells - 1))
-single_new b cells c d e keeps first = unless_some b (cell_new cells c d keeps, stays cells c e (length cells - 1) first)
-
-own_new : {N : Type 0} (b : Bool) (cells : List (Cell N)) (c : Cell N) (d e : Tree) → KeepsBoth c d → small e ≡ true
-    → Unless b (HasCell (cells ++ c ∷ []) (length cells) d × In (cells ++ c ∷ []) e (length cells))
-own_new b cells c d e keeps own = unless_some b (cell_new cells c d keeps, small_in (cells ++ c ∷ []) e (length cells) own)
+single_new : {N : Type 0} (s b : Bool) (cells : List (Cell N)) (c : Cell N) (d e : Tree) → KeepsBoth c d
+    → In cells e (length cells - 1) → IsSmallIf s e
+    → Unless b (HasCell (cells ++ c ∷ []) (length cells) d × In (cells ++ c ∷ []) e (part_at s (length cells)))
+single_new true b cells c d e keeps first own =
+    unless_some b (cell_new cells c d keeps, small_in (cells ++ c ∷ []) e (length cells) own)
+single_new false b cells c d e keeps first own =
+    unless_some b (cell_new cells c d keeps, stays cells c e (length cells - 1) first)
 
 -- a node stands where its cell was added
 pub stands_new : {N : Type 0} (cells : List (Cell N)) (c : Cell N) (d : Tree) → KeepsBoth c d
     → FirstIn cells (length cells - 1) (parts_of d)
     → SecondIn cells (second_of c) (parts_of d) → IsOwn d → In (cells ++ c ∷ []) d (length cells)
-stands_new cells c (Append l r) keeps first second own = pair_new (small (Append l r)) cells c (Append l r) l r keeps first second
-stands_new cells c (LineSuffix d) keeps first second own = single_new (small (LineSuffix d)) cells c (LineSuffix d) d keeps first
-stands_new cells c (Indented how d) keeps first second own = own_new (small (Indented how d)) cells c (Indented how d) d keeps own
-stands_new cells c (Flatten d) keeps first second own = single_new (small (Flatten d)) cells c (Flatten d) d keeps first
-stands_new cells c (BreakOrFlat l r) keeps first second own =
-    pair_new (small (BreakOrFlat l r)) cells c (BreakOrFlat l r) l r keeps first second
-stands_new cells c (Group d) keeps first second own = own_new (small (Group d)) cells c (Group d) d keeps own
-stands_new cells c (Union l r) keeps first second own = pair_new (small (Union l r)) cells c (Union l r) l r keeps first second
-stands_new cells c (PartialUnion l r) keeps first second own =
-    pair_new (small (PartialUnion l r)) cells c (PartialUnion l r) l r keeps first second
-stands_new cells c (Chosen test l r) keeps first second own =
-    pair_new (small (Chosen test l r)) cells c (Chosen test l r) l r keeps first second
+stands_new cells c (One kind d) keeps first second own =
+    single_new (shares kind) (small (One kind d)) cells c (One kind d) d keeps first own
+stands_new cells c (Two kind l r) keeps first second own = pair_new (small (Two kind l r)) cells c (Two kind l r) l r keeps first second
 stands_new cells c Nil keeps first second own = tt
-stands_new cells c t.Fail keeps first second own = tt
-stands_new cells c (t.Text s) keeps first second own = tt
-stands_new cells c (t.TextWithLen w s) keeps first second own = tt
-stands_new cells c (t.MultilineText s) keeps first second own = tt
-stands_new cells c t.WeakSpace keeps first second own = tt
-stands_new cells c t.HardLine keeps first second own = tt
-stands_new cells c t.WeakLine keeps first second own = tt
-stands_new cells c t.ExpandParent keeps first second own = tt
+stands_new cells c _ keeps first second own = tt
 
 -- ---- The second part
 

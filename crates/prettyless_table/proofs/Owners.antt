@@ -3,13 +3,12 @@ use Rattle.std.proofs.Common.{◌≡◌, ℕ, zero, suc, ◌+◌, ◌≤◌, Boo
 use Rattle.std.proofs.Common.{ap, subst, sym, ◌∙◌, arith, append-nil, append_assoc, length-append}
 use Rattle.std.specs.Prelude.{⊤}
 use Rattle.std.proofs.Math.Seq.{drop-append_seam}
-use Rattle.prettyless_model.specs.Tree.{Tree, Nil, Fail, Text, TextWithLen, MultilineText, WeakSpace, HardLine, WeakLine, Append}
-use Rattle.prettyless_model.specs.Tree.{LineSuffix, Indented, ExpandParent, Flatten, BreakOrFlat, Group, Union, PartialUnion, Chosen}
-use Rattle.prettyless_model.specs.Tree.{size}
+use Rattle.prettyless_model.specs.Tree.{Tree, Nil, One, Two, size}
+use Rattle.prettyless_model.specs.declared.kind.Single.{Single}
 use Rattle.prettyless_probe.proofs.Sizes.{size_positive}
-use Rattle.prettyless_table.specs.Parts.{leaves, none, parts_of, small, takes}
-use Rattle.prettyless_table.specs.Stored.{IsOwn, Serves}
-use Rattle.prettyless_table.specs.Owners.{all_owners, keeper, keepers, owners_of, with_own}
+use Rattle.prettyless_table.specs.Parts.{leaves, none, parts_of, shares, small, takes, takes_own}
+use Rattle.prettyless_table.specs.Stored.{IsOwn, IsSmallIf, Serves}
+use Rattle.prettyless_table.specs.Owners.{all_owners, keeper, keeper_by, keepers, owners_of, with_own}
 use Rattle.prettyless_table.proofs.Sharing.{serves_part}
 
 -- ---- The size of a tree
@@ -21,24 +20,10 @@ sizes (d ∷ ds) = size d + sizes ds
 
 -- the size of a tree, from those of its parts
 pub size-is : (d : Tree) → size d ≡ sizes (parts_of d) + 1
+size-is (One kind d) = omega arith
+size-is (Two kind l r) = omega arith
 size-is Nil = omega arith
-size-is Fail = omega arith
-size-is (Text s) = omega arith
-size-is (TextWithLen w s) = omega arith
-size-is (MultilineText s) = omega arith
-size-is WeakSpace = omega arith
-size-is HardLine = omega arith
-size-is WeakLine = omega arith
-size-is (Append l r) = omega arith
-size-is (LineSuffix d) = omega arith
-size-is (Indented how d) = omega arith
-size-is ExpandParent = omega arith
-size-is (Flatten d) = omega arith
-size-is (BreakOrFlat b f) = omega arith
-size-is (Group d) = omega arith
-size-is (Union l r) = omega arith
-size-is (PartialUnion l r) = omega arith
-size-is (Chosen test y n) = omega arith
+size-is _ = omega arith
 
 pub size_one : (d x : Tree) → x ∷ [] ≡ parts_of d → size d ≡ size x + 1
 size_one d x e = omega (arith, size-is d, ap sizes e)
@@ -50,24 +35,10 @@ size_two d x y e = omega (arith, size-is d, ap sizes e)
 
 -- the nodes of a tree that take cells, by its parts
 pub owners-is : (d : Tree) → owners_of d ≡ with_own d (all_owners (parts_of d))
+owners-is (One kind d) = ap (with_own (One kind d)) (sym (append-nil (owners_of d)))
+owners-is (Two kind l r) = ap (λ ds. with_own (Two kind l r) (owners_of l ++ ds)) (sym (append-nil (owners_of r)))
 owners-is Nil = refl
-owners-is Fail = refl
-owners-is (Text s) = refl
-owners-is (TextWithLen w s) = refl
-owners-is (MultilineText s) = refl
-owners-is WeakSpace = refl
-owners-is HardLine = refl
-owners-is WeakLine = refl
-owners-is (Append l r) = ap (λ ds. with_own (Append l r) (owners_of l ++ ds)) (sym (append-nil (owners_of r)))
-owners-is (LineSuffix d) = ap (with_own (LineSuffix d)) (sym (append-nil (owners_of d)))
-owners-is (Indented how d) = ap (with_own (Indented how d)) (sym (append-nil (owners_of d)))
-owners-is ExpandParent = refl
-owners-is (Flatten d) = ap (with_own (Flatten d)) (sym (append-nil (owners_of d)))
-owners-is (BreakOrFlat l r) = ap (λ ds. with_own (BreakOrFlat l r) (owners_of l ++ ds)) (sym (append-nil (owners_of r)))
-owners-is (Group d) = ap (with_own (Group d)) (sym (append-nil (owners_of d)))
-owners-is (Union l r) = ap (λ ds. with_own (Union l r) (owners_of l ++ ds)) (sym (append-nil (owners_of r)))
-owners-is (PartialUnion l r) = ap (λ ds. with_own (PartialUnion l r) (owners_of l ++ ds)) (sym (append-nil (owners_of r)))
-owners-is (Chosen test l r) = ap (λ ds. with_own (Chosen test l r) (owners_of l ++ ds)) (sym (append-nil (owners_of r)))
+owners-is _ = refl
 
 pub owners_own : (d : Tree) → takes d ≡ true → owners_of d ≡ d ∷ all_owners (parts_of d)
 owners_own d e = owners-is d ∙ ap (λ (b : Bool). if b then d ∷ all_owners (parts_of d) else all_owners (parts_of d)) e
@@ -97,33 +68,25 @@ lone_small : (p b : Bool) → (if p then false else b) ≡ true → b ≡ true
 lone_small true b e = cc
 lone_small false b e = e
 
-keeper_own : (b : Bool) (d e : Tree) → b ≡ true → (if b then d else e) ≡ d
-keeper_own true d e h = refl
-keeper_own false d e h = cc
+owner_of : (s : Bool) (kind : Single) (d : Tree) → shares kind ≡ s → takes_own s (One kind d) d ≡ true → IsOwner (One kind d)
+owner_of true kind d is e =
+    let b = lone_small (none (parts_of d)) (small d) e in
+    record {
+      large = lone_large (none (parts_of d)) (small d) e;
+      own = subst (λ (s : Bool). IsSmallIf s d) (sym is) b;
+      keeper = rw is (rw b refl);
+    }
+owner_of false kind d is e = record {
+  large = not_true (small (One kind d)) e;
+  own = subst (λ (s : Bool). IsSmallIf s d) (sym is) tt;
+  keeper = rw is refl;
+}
 
 pub owner : (d : Tree) → takes d ≡ true → IsOwner d
-owner (Indented how d) e =
-    let b = lone_small (none (parts_of d)) (small d) e in
-    record { large = lone_large (none (parts_of d)) (small d) e; own = b; keeper = keeper_own (small d) (Indented how d) (keeper d) b }
-owner (Group d) e =
-    let b = lone_small (none (parts_of d)) (small d) e in
-    record { large = lone_large (none (parts_of d)) (small d) e; own = b; keeper = keeper_own (small d) (Group d) (keeper d) b }
-owner (Append l r) e = record { large = not_true (small (Append l r)) e; own = tt; keeper = refl }
-owner (LineSuffix d) e = record { large = not_true (small (LineSuffix d)) e; own = tt; keeper = refl }
-owner (Flatten d) e = record { large = not_true (small (Flatten d)) e; own = tt; keeper = refl }
-owner (BreakOrFlat l r) e = record { large = not_true (small (BreakOrFlat l r)) e; own = tt; keeper = refl }
-owner (Union l r) e = record { large = not_true (small (Union l r)) e; own = tt; keeper = refl }
-owner (PartialUnion l r) e = record { large = not_true (small (PartialUnion l r)) e; own = tt; keeper = refl }
-owner (Chosen test l r) e = record { large = not_true (small (Chosen test l r)) e; own = tt; keeper = refl }
+owner (One kind d) e = owner_of (shares kind) kind d refl e
+owner (Two kind l r) e = record { large = not_true (small (Two kind l r)) e; own = tt; keeper = refl }
 owner Nil e = cc
-owner Fail e = cc
-owner (Text s) e = cc
-owner (TextWithLen w s) e = cc
-owner (MultilineText s) e = cc
-owner WeakSpace e = cc
-owner HardLine e = cc
-owner WeakLine e = cc
-owner ExpandParent e = cc
+owner _ e = cc
 
 -- ---- Of which node a document has the cell
 
@@ -156,34 +119,28 @@ keepers_less : (d : Tree) (ds : List Tree) → small d ≡ true → keepers (d �
 keepers_less d ds e = keepers_small d ds e ∙ ap (λ (es : List Tree). es ++ keepers ds) (sym (keepers_leaves (parts_of d) e))
 
 keepers_shared : (p b : Bool) (x y : Tree) (zs : List Tree) → (p ≡ true → b ≡ true) → (if p then false else b) ≡ false
-    → (if (p && true) then zs else (if b then x else y) ∷ zs) ≡ (if b then [] else y ∷ []) ++ zs
+    → (if (p && true) then zs else keeper_by true b x y ∷ zs) ≡ (if b then [] else y ∷ []) ++ zs
 keepers_shared true true x y zs g e = refl
 keepers_shared true false x y zs g e = absurd (cc (g refl))
 keepers_shared false true x y zs g e = cc
 keepers_shared false false x y zs g e = refl
 
+keepers_not_of : (s : Bool) (kind : Single) (d : Tree) (ds : List Tree) → shares kind ≡ s → takes_own s (One kind d) d ≡ false
+    → (if small (One kind d) then keepers ds else keeper_by s (small d) (One kind d) (keeper d) ∷ keepers ds)
+    ≡ keepers (d ∷ []) ++ keepers ds
+keepers_not_of true kind d ds is e =
+    keepers_shared (none (parts_of d)) (small d) (One kind d) (keeper d) (keepers ds) (none_leaves (parts_of d)) e
+keepers_not_of false kind d ds is e =
+    subst (λ (s : Bool). (if small (One kind d) then keepers ds else keeper_by s (small d) (One kind d) (keeper d) ∷ keepers ds)
+    ≡ keepers (d ∷ []) ++ keepers ds)
+    is (keepers_less (One kind d) ds (not_false (small (One kind d)) e))
+
 -- a node that takes no cell has that of its part, if there is one
-keepers_not : (d : Tree) (ds : List Tree) → takes d ≡ false → keepers (d ∷ ds) ≡ keepers (parts_of d) ++ keepers ds
-keepers_not (Indented how d) ds e =
-    keepers_shared (none (parts_of d)) (small d) (Indented how d) (keeper d) (keepers ds) (none_leaves (parts_of d)) e
-keepers_not (Group d) ds e =
-    keepers_shared (none (parts_of d)) (small d) (Group d) (keeper d) (keepers ds) (none_leaves (parts_of d)) e
-keepers_not (Append l r) ds e = keepers_less (Append l r) ds (not_false (small (Append l r)) e)
-keepers_not (LineSuffix d) ds e = keepers_less (LineSuffix d) ds (not_false (small (LineSuffix d)) e)
-keepers_not (Flatten d) ds e = keepers_less (Flatten d) ds (not_false (small (Flatten d)) e)
-keepers_not (BreakOrFlat l r) ds e = keepers_less (BreakOrFlat l r) ds (not_false (small (BreakOrFlat l r)) e)
-keepers_not (Union l r) ds e = keepers_less (Union l r) ds (not_false (small (Union l r)) e)
-keepers_not (PartialUnion l r) ds e = keepers_less (PartialUnion l r) ds (not_false (small (PartialUnion l r)) e)
-keepers_not (Chosen test l r) ds e = keepers_less (Chosen test l r) ds (not_false (small (Chosen test l r)) e)
+pub keepers_not : (d : Tree) (ds : List Tree) → takes d ≡ false → keepers (d ∷ ds) ≡ keepers (parts_of d) ++ keepers ds
+keepers_not (One kind d) ds e = keepers_not_of (shares kind) kind d ds refl e
+keepers_not (Two kind l r) ds e = keepers_less (Two kind l r) ds (not_false (small (Two kind l r)) e)
 keepers_not Nil ds e = refl
-keepers_not Fail ds e = refl
-keepers_not (Text s) ds e = refl
-keepers_not (TextWithLen w s) ds e = refl
-keepers_not (MultilineText s) ds e = refl
-keepers_not WeakSpace ds e = refl
-keepers_not HardLine ds e = refl
-keepers_not WeakLine ds e = refl
-keepers_not ExpandParent ds e = refl
+keepers_not _ ds e = refl
 
 -- ---- Nodes in a list
 
@@ -286,28 +243,15 @@ pub owners_fewer : (ds : List Tree) → length (all_owners ds) + length ds ≤ s
 owners_fewer ds = fewer_within (sizes ds) ds (omega arith)
 
 -- a document stands where the node does whose cell it has
-shared_serves : (N : Type 0) (b : Bool) (d e : Tree) → small d ≡ b → Serves N (keeper d) d → (small d ≡ false → Serves N d e)
-    → Serves N (if b then e else keeper d) e
-shared_serves N true d e is below above = λ cells at h. h
-shared_serves N false d e is below above = λ cells at h. above is cells at (below cells at h)
+shared_serves : (N : Type 0) (s b : Bool) (kind : Single) (d : Tree) → shares kind ≡ s → small d ≡ b → Serves N (keeper d) d
+    → Serves N (keeper_by s b (One kind d) (keeper d)) (One kind d)
+shared_serves N true false kind d is little below = λ cells at h. serves_part N kind d is little cells at (below cells at h)
+shared_serves N true true kind d is little below = λ cells at h. h
+shared_serves N false true kind d is little below = λ cells at h. h
+shared_serves N false false kind d is little below = λ cells at h. h
 
 pub keeper_serves : (N : Type 0) (d : Tree) → Serves N (keeper d) d
-keeper_serves N (Indented how d) =
-    shared_serves N (small d) d (Indented how d) refl (keeper_serves N d) (serves_part N (Indented how d) d refl refl)
-keeper_serves N (Group d) = shared_serves N (small d) d (Group d) refl (keeper_serves N d) (serves_part N (Group d) d refl refl)
-keeper_serves N (Append l r) = λ cells at h. h
-keeper_serves N (LineSuffix d) = λ cells at h. h
-keeper_serves N (Flatten d) = λ cells at h. h
-keeper_serves N (BreakOrFlat l r) = λ cells at h. h
-keeper_serves N (Union l r) = λ cells at h. h
-keeper_serves N (PartialUnion l r) = λ cells at h. h
-keeper_serves N (Chosen test l r) = λ cells at h. h
+keeper_serves N (One kind d) = shared_serves N (shares kind) (small d) kind d refl refl (keeper_serves N d)
+keeper_serves N (Two kind l r) = λ cells at h. h
 keeper_serves N Nil = λ cells at h. h
-keeper_serves N Fail = λ cells at h. h
-keeper_serves N (Text s) = λ cells at h. h
-keeper_serves N (TextWithLen w s) = λ cells at h. h
-keeper_serves N (MultilineText s) = λ cells at h. h
-keeper_serves N WeakSpace = λ cells at h. h
-keeper_serves N HardLine = λ cells at h. h
-keeper_serves N WeakLine = λ cells at h. h
-keeper_serves N ExpandParent = λ cells at h. h
+keeper_serves N _ = λ cells at h. h

@@ -1,7 +1,8 @@
 -- Nodes that have the place of their part, and those that have a cell of their own.
-use Rattle.std.proofs.Common.{◌≡◌, ℕ, ◌≤◌, Bool, refl, true, false, List, [], ◌∷◌, get_or, ap, subst, sym, ◌∙◌, arith}
-use Rattle.prettyless_model.specs.Tree.{Tree, Nil, Fail, Text, TextWithLen, MultilineText, WeakSpace, HardLine, WeakLine, ExpandParent}
-use Rattle.prettyless_model.specs.Tree.{LineSuffix, Chosen, Indented, Flatten, Group, BreakOrFlat, Union, PartialUnion, Append, size}
+use Rattle.std.proofs.Common.{◌≡◌, ℕ, ◌≤◌, Bool, refl, true, false, List, get_or, subst, sym, arith}
+use Rattle.prettyless_model.specs.Tree.{Tree, One, size}
+use Rattle.prettyless_model.specs.declared.kind.Single.{Single}
+use Rattle.prettyless_model.specs.declared.kind.Single.TheVariants as one
 use Rattle.prettyless_model.specs.declared.mode.Mode.{Mode}
 use Rattle.prettyless_model.specs.declared.mode.Mode.TheVariants.{Break, Flat}
 use Rattle.prettyless_summary.specs.Summary.{Summarizes, has_summary}
@@ -11,8 +12,8 @@ use Rattle.prettyless_table.specs.Sums.{Keeps, KeptIf}
 use Rattle.prettyless_table.specs.declared.sums.Counts.{Counts}
 use Rattle.prettyless_table.specs.declared.cell.Cell.{Cell}
 use Rattle.prettyless_table.specs.declared.cell.Cell.TheVariants.{Sums, Root}
-use Rattle.prettyless_table.specs.Parts.{parts_of, shares, small}
-use Rattle.prettyless_table.specs.Cells.{HasCell, In, KeepsBoth}
+use Rattle.prettyless_table.specs.Parts.{shares, small}
+use Rattle.prettyless_table.specs.Cells.{HasCell, In, KeepsBoth, part_at}
 use Rattle.prettyless_table.specs.Stored.{Serves}
 use Rattle.prettyless_table.proofs.Cells.{in_cell, unless_some}
 
@@ -42,37 +43,17 @@ cell_as {N} cells at d e via has less h = record {
   keeps = λ (c : Cell N). both_as (get_or cells at c) d e via has less (h.keeps c);
 }
 
+stands_as : (N : Type 0) (kind : Single) (d : Tree) → shares kind ≡ true → small d ≡ false
+    → ((m : Mode) (x : Summary) → Summarizes x d m → Summarizes x (One kind d) m) → ((m : Mode) → has_summary d m ≡ has_summary (One kind d) m)
+    → Serves N d (One kind d)
+stands_as N kind d s little via has cells at h = unless_some (small (One kind d)) (
+  cell_as cells at d (One kind d) via has (omega arith) (in_cell cells d at little h),
+  subst (λ (b : Bool). In cells d (part_at b at)) (sym s) h,
+)
+
 -- where the part stands, a node that has its place does
-pub serves_part : (N : Type 0) (d x : Tree) → x ∷ [] ≡ parts_of d → shares d ≡ true → small x ≡ false → Serves N x d
-serves_part N (Indented how d) x e s little cells at h =
-    let same : x ≡ d = ap (λ (ds : List Tree). get_or ds 0 Nil) e in
-    let stands : In cells d at = subst (λ (t : Tree). In cells t at) same h in
-    unless_some (small (Indented how d)) (
-      cell_as cells at d (Indented how d) (λ m y. summarizes_indented y m how d) (λ m. refl) (omega arith)
-          (in_cell cells d at (ap small (sym same) ∙ little) stands),
-      stands,
-    )
-serves_part N (Group d) x e s little cells at h =
-    let same : x ≡ d = ap (λ (ds : List Tree). get_or ds 0 Nil) e in
-    let stands : In cells d at = subst (λ (t : Tree). In cells t at) same h in
-    unless_some (small (Group d)) (
-      cell_as cells at d (Group d) (λ m y. summarizes_group y m d) (λ m. refl) (omega arith)
-          (in_cell cells d at (ap small (sym same) ∙ little) stands),
-      stands,
-    )
-serves_part N (Append l r) x e s little cells at h = cc
-serves_part N (LineSuffix d) x e s little cells at h = cc
-serves_part N (Flatten d) x e s little cells at h = cc
-serves_part N (BreakOrFlat l r) x e s little cells at h = cc
-serves_part N (Union l r) x e s little cells at h = cc
-serves_part N (PartialUnion l r) x e s little cells at h = cc
-serves_part N (Chosen test l r) x e s little cells at h = cc
-serves_part N Nil x e s little cells at h = cc
-serves_part N Fail x e s little cells at h = cc
-serves_part N (Text t) x e s little cells at h = cc
-serves_part N (TextWithLen w t) x e s little cells at h = cc
-serves_part N (MultilineText t) x e s little cells at h = cc
-serves_part N WeakSpace x e s little cells at h = cc
-serves_part N HardLine x e s little cells at h = cc
-serves_part N WeakLine x e s little cells at h = cc
-serves_part N ExpandParent x e s little cells at h = cc
+pub serves_part : (N : Type 0) (kind : Single) (d : Tree) → shares kind ≡ true → small d ≡ false → Serves N d (One kind d)
+serves_part N (one.Indented how) d s little = stands_as N (one.Indented how) d s little (λ m x. summarizes_indented x m how d) (λ m. refl)
+serves_part N one.Group d s little = stands_as N one.Group d s little (λ m x. summarizes_group x m d) (λ m. refl)
+serves_part N one.LineSuffix d s little = cc
+serves_part N one.Flatten d s little = cc

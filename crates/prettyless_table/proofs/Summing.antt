@@ -2,7 +2,7 @@
 use Rattle.std.proofs.Common.{◌≡◌, ◌≢◌, ℕ, ◌+◌, ◌<◌, ◌≤◌, ◌^◌, ◌&&◌, Bool, [], Option, Some, None, true, false, refl, subst, sym, arith}
 use Rattle.prettyless_model.specs.Tree as t
 use Rattle.prettyless_model.specs.Tree.{Tree, HardLine, Indented, Flatten, Group, BreakOrFlat, Union, PartialUnion, Append, size}
-use Rattle.prettyless_model.specs.Indent.{Indenting}
+use Rattle.prettyless_model.specs.declared.kind.Indenting.{Indenting}
 use Rattle.prettyless_model.specs.Column.{padding_fits}
 use Rattle.prettyless_model.specs.Look.{Answers}
 use Rattle.prettyless_model.specs.declared.mode.Mode.{Mode}
@@ -97,24 +97,10 @@ sum_hard_line s broken Flat h same never = summarizes_flat_hard_line s (never re
 
 -- a leaf has a summary
 pub leaf_found : (d : Tree) (m : Mode) (s : Summary) → [] ≡ parts_of d → IsSmall 1 s → FoundIf (has_summary d m) (size d) (Some s)
+leaf_found (t.One kind d) m s e h = absurd (cc)
+leaf_found (t.Two kind l r) m s e h = absurd (cc)
 leaf_found t.Nil m s e h = h
-leaf_found t.Fail m s e h = h
-leaf_found (t.Text x) m s e h = h
-leaf_found (t.TextWithLen w x) m s e h = h
-leaf_found (t.MultilineText x) m s e h = h
-leaf_found t.WeakSpace m s e h = h
-leaf_found t.HardLine m s e h = h
-leaf_found t.WeakLine m s e h = h
-leaf_found t.ExpandParent m s e h = h
-leaf_found (t.Append l r) m s e h = absurd (cc)
-leaf_found (t.LineSuffix d) m s e h = absurd (cc)
-leaf_found (t.Indented how d) m s e h = absurd (cc)
-leaf_found (t.Flatten d) m s e h = absurd (cc)
-leaf_found (t.BreakOrFlat b f) m s e h = absurd (cc)
-leaf_found (t.Group d) m s e h = absurd (cc)
-leaf_found (t.Union l r) m s e h = absurd (cc)
-leaf_found (t.PartialUnion l r) m s e h = absurd (cc)
-leaf_found (t.Chosen test y n) m s e h = absurd (cc)
+leaf_found _ m s e h = h
 
 -- the summary of a leaf
 pub sum_leaf : (d : Tree) (m : Mode) (s : Summary) → [] ≡ parts_of d → Summarizes s d m → IsSmall 1 s → IsModeSummary (Some s) d m

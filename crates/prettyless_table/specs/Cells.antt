@@ -1,14 +1,13 @@
 -- Tables: which documents stand where in their cells.
 use Rattle.std.specs.Prelude.{◌≡◌, ℕ, ◌-◌, ◌<◌, ◌≤◌, Bool, true, false, List, [], ◌∷◌, Option, Some, None, length, get_or, ⊤}
 use Rattle.std.specs.Coded.{×_prop, Unit-prop, le_prop}
-use Rattle.prettyless_model.specs.Tree.{Tree, Nil, Append, LineSuffix, Indented, Flatten, BreakOrFlat, Group, Union, PartialUnion, Chosen}
-use Rattle.prettyless_model.specs.Tree as t
+use Rattle.prettyless_model.specs.Tree.{Tree, Nil, One, Two}
 use Rattle.prettyless_model.specs.declared.mode.Mode.TheVariants.{Break, Flat}
 use Rattle.prettyless_table.specs.declared.sums.Counts.{Counts}
 use Rattle.prettyless_table.specs.declared.cell.Cell.{Cell}
 use Rattle.prettyless_table.specs.declared.cell.Cell.TheVariants.{Sums, Root}
 use Rattle.prettyless_table.specs.Sums.{Keeps, Keeps-prop}
-use Rattle.prettyless_table.specs.Parts.{small}
+use Rattle.prettyless_table.specs.Parts.{shares, small}
 
 -- the document that was stored before a cell, if the cell is for one
 abbrev pub root_tree : {N : Type 0} → (N → Tree) → Cell N → Option Tree
@@ -69,23 +68,17 @@ abbrev pub Unless : Bool → Type 0 → Type 0
 Unless true P = ⊤
 Unless false P = P
 
+-- where the only part of a node of this kind stands, whose place this is
+abbrev pub part_at : Bool → ℕ → ℕ
+part_at true at = at
+part_at false at = at - 1
+
 -- A document stands at a place of a table: it is small, or its summaries are in the cell there. Its first part, or only one, stands
 -- at the place before it, or at the same place, and the second one where the cell says.
 abbrev pub In : {N : Type 0} → List (Cell N) → Tree → ℕ → Type 0
-In cells (Append l r) at = Unless (small (Append l r))
-    (HasCell cells at (Append l r) × (In cells l (at - 1) × In cells r (second_at cells at)))
-In cells (LineSuffix d) at = Unless (small (LineSuffix d)) (HasCell cells at (LineSuffix d) × In cells d (at - 1))
-In cells (Indented how d) at = Unless (small (Indented how d)) (HasCell cells at (Indented how d) × In cells d at)
-In cells (Flatten d) at = Unless (small (Flatten d)) (HasCell cells at (Flatten d) × In cells d (at - 1))
-In cells (BreakOrFlat l r) at =
-    Unless (small (BreakOrFlat l r)) (HasCell cells at (BreakOrFlat l r) × (In cells l (at - 1) × In cells r (second_at cells at)))
-In cells (Group d) at = Unless (small (Group d)) (HasCell cells at (Group d) × In cells d at)
-In cells (Union l r) at = Unless (small (Union l r))
-    (HasCell cells at (Union l r) × (In cells l (at - 1) × In cells r (second_at cells at)))
-In cells (PartialUnion l r) at =
-    Unless (small (PartialUnion l r)) (HasCell cells at (PartialUnion l r) × (In cells l (at - 1) × In cells r (second_at cells at)))
-In cells (Chosen test l r) at =
-    Unless (small (Chosen test l r)) (HasCell cells at (Chosen test l r) × (In cells l (at - 1) × In cells r (second_at cells at)))
+In cells (One kind d) at = Unless (small (One kind d)) (HasCell cells at (One kind d) × In cells d (part_at (shares kind) at))
+In cells (Two kind l r) at =
+    Unless (small (Two kind l r)) (HasCell cells at (Two kind l r) × (In cells l (at - 1) × In cells r (second_at cells at)))
 In cells _ at = ⊤
 
 -- a document that was stored stands where its cell says
@@ -118,29 +111,11 @@ single-prop b cells at d h = Unless-prop b (×_prop (HasCell-prop cells at d) h)
 
 -- so a node of a table may know where it stands
 pub In-prop : {N : Type 0} (cells : List (Cell N)) (d : Tree) (at : ℕ) → IsProp (In cells d at)
-In-prop cells (Append l r) at =
-    pair-prop (small (Append l r)) cells at (Append l r) (In-prop cells l (at - 1)) (In-prop cells r (second_at cells at))
-In-prop cells (LineSuffix d) at = single-prop (small (LineSuffix d)) cells at (LineSuffix d) (In-prop cells d (at - 1))
-In-prop cells (Indented how d) at = single-prop (small (Indented how d)) cells at (Indented how d) (In-prop cells d at)
-In-prop cells (Flatten d) at = single-prop (small (Flatten d)) cells at (Flatten d) (In-prop cells d (at - 1))
-In-prop cells (BreakOrFlat l r) at =
-    pair-prop (small (BreakOrFlat l r)) cells at (BreakOrFlat l r) (In-prop cells l (at - 1)) (In-prop cells r (second_at cells at))
-In-prop cells (Group d) at = single-prop (small (Group d)) cells at (Group d) (In-prop cells d at)
-In-prop cells (Union l r) at =
-    pair-prop (small (Union l r)) cells at (Union l r) (In-prop cells l (at - 1)) (In-prop cells r (second_at cells at))
-In-prop cells (PartialUnion l r) at =
-    pair-prop (small (PartialUnion l r)) cells at (PartialUnion l r) (In-prop cells l (at - 1)) (In-prop cells r (second_at cells at))
-In-prop cells (Chosen test l r) at =
-    pair-prop (small (Chosen test l r)) cells at (Chosen test l r) (In-prop cells l (at - 1)) (In-prop cells r (second_at cells at))
+In-prop cells (One kind d) at = single-prop (small (One kind d)) cells at (One kind d) (In-prop cells d (part_at (shares kind) at))
+In-prop cells (Two kind l r) at =
+    pair-prop (small (Two kind l r)) cells at (Two kind l r) (In-prop cells l (at - 1)) (In-prop cells r (second_at cells at))
 In-prop cells Nil at = Unit-prop
-In-prop cells t.Fail at = Unit-prop
-In-prop cells (t.Text s) at = Unit-prop
-In-prop cells (t.TextWithLen w s) at = Unit-prop
-In-prop cells (t.MultilineText s) at = Unit-prop
-In-prop cells t.WeakSpace at = Unit-prop
-In-prop cells t.HardLine at = Unit-prop
-In-prop cells t.WeakLine at = Unit-prop
-In-prop cells t.ExpandParent at = Unit-prop
+In-prop cells _ at = Unit-prop
 
 -- cells were added: earlier ones are the same, and all documents stand where their cells say if they did
 pub record CellsGrow {N : Type 0} (f : N → Tree) (old new : List (Cell N)) : Type 0 where

@@ -1,11 +1,11 @@
 -- The nodes of documents that take cells, in the order in which they are listed, and where documents stand meanwhile.
-use Rattle.std.specs.Prelude.{ℕ, ◌-◌, if◌then◌else◌, List, [], ◌∷◌, ◌++◌, map, length, reverse, ⊤}
-use Rattle.prettyless_model.specs.Tree.{Tree, Append, LineSuffix, Indented, Flatten, BreakOrFlat, Group, Union, PartialUnion, Chosen}
+use Rattle.std.specs.Prelude.{ℕ, ◌-◌, Bool, true, false, if◌then◌else◌, List, [], ◌∷◌, ◌++◌, map, length, reverse, ⊤}
+use Rattle.prettyless_model.specs.Tree.{Tree, One, Two}
 use Rattle.prettyless_probe.specs.Stack.{Task, trees}
 use Rattle.prettyless_step.specs.Printing.{tasks_of}
 use Rattle.prettyless_step.specs.declared.printer.Printer.{Printer}
 use Rattle.prettyless_table.specs.declared.cell.Cell.{Cell}
-use Rattle.prettyless_table.specs.Parts.{small, takes}
+use Rattle.prettyless_table.specs.Parts.{shares, small, takes}
 use Rattle.prettyless_table.specs.Cells.{In}
 use Rattle.prettyless_table.specs.Stored.{FirstIn, SecondIn}
 
@@ -15,15 +15,8 @@ with_own d ds = if takes d then d ∷ ds else ds
 
 -- the nodes of a tree that take cells: itself before those below it, and those of its first part before those of its second one
 abbrev pub owners_of : Tree → List Tree
-owners_of (Append l r) = with_own (Append l r) (owners_of l ++ owners_of r)
-owners_of (LineSuffix d) = with_own (LineSuffix d) (owners_of d)
-owners_of (Indented how d) = with_own (Indented how d) (owners_of d)
-owners_of (Flatten d) = with_own (Flatten d) (owners_of d)
-owners_of (BreakOrFlat l r) = with_own (BreakOrFlat l r) (owners_of l ++ owners_of r)
-owners_of (Group d) = with_own (Group d) (owners_of d)
-owners_of (Union l r) = with_own (Union l r) (owners_of l ++ owners_of r)
-owners_of (PartialUnion l r) = with_own (PartialUnion l r) (owners_of l ++ owners_of r)
-owners_of (Chosen test l r) = with_own (Chosen test l r) (owners_of l ++ owners_of r)
+owners_of (One kind d) = with_own (One kind d) (owners_of d)
+owners_of (Two kind l r) = with_own (Two kind l r) (owners_of l ++ owners_of r)
 owners_of _ = []
 
 -- and those of trees
@@ -41,10 +34,14 @@ abbrev pub large : List Tree → List Tree
 large [] = []
 large (d ∷ ds) = if small d then large ds else d ∷ large ds
 
+-- one tree or the other, where the first is that of a node with the place of its part, and the second is not small
+abbrev pub keeper_by : Bool → Bool → Tree → Tree → Tree
+keeper_by true false d x = x
+keeper_by _ _ d x = d
+
 -- the node whose cell a tree has that is not small: itself, or that of its part
 abbrev pub keeper : Tree → Tree
-keeper (Indented how d) = if small d then Indented how d else keeper d
-keeper (Group d) = if small d then Group d else keeper d
+keeper (One kind d) = keeper_by (shares kind) (small d) (One kind d) (keeper d)
 keeper d = d
 
 -- the nodes whose cells trees have

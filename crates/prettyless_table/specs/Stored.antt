@@ -1,8 +1,8 @@
 -- Where a document and its parts stand in a table.
-use Rattle.std.specs.Prelude.{◌≡◌, ℕ, ◌<◌, true, List, [], ◌∷◌, Option, Some, None, length, get_or, ⊤}
-use Rattle.prettyless_model.specs.Tree.{Tree, Indented, Group}
+use Rattle.std.specs.Prelude.{◌≡◌, ℕ, ◌<◌, Bool, true, false, List, [], ◌∷◌, Option, Some, None, length, get_or, ⊤}
+use Rattle.prettyless_model.specs.Tree.{Tree, One}
 use Rattle.prettyless_table.specs.declared.cell.Cell.{Cell}
-use Rattle.prettyless_table.specs.Parts.{small}
+use Rattle.prettyless_table.specs.Parts.{shares, small}
 use Rattle.prettyless_table.specs.Cells.{In}
 
 -- this tree is at a place
@@ -26,7 +26,10 @@ abbrev pub Serves : (N : Type 0) → Tree → Tree → Type 0
 Serves N d e = (cells : List (Cell N)) (at : ℕ) → In cells d at → In cells e at
 
 -- a node that has the place of its part would have one that is not small; this one gets a cell of its own
+abbrev pub IsSmallIf : Bool → Tree → Type 0
+IsSmallIf true d = small d ≡ true
+IsSmallIf false d = ⊤
+
 abbrev pub IsOwn : Tree → Type 0
-IsOwn (Indented how d) = small d ≡ true
-IsOwn (Group d) = small d ≡ true
+IsOwn (One kind d) = IsSmallIf (shares kind) d
 IsOwn _ = ⊤

@@ -8,7 +8,6 @@
 mod below;
 mod cell;
 mod counting;
-mod kind;
 mod placed;
 mod shift;
 mod sums;

@@ -1,8 +1,10 @@
 //! A node of a table, as a printer walks it. It knows the table, and the document's nodes by `Walk` alone.
 ghost use Rattle.std.specs.Prelude.{◌≡◌, ◌-◌, ◌<◌, true, ⊤};
-ghost use Rattle.prettyless_table.specs.Cells.{In, In-prop, IsRoot, CellsAreSound, tree_at, second_at};
+ghost use Rattle.prettyless_table.specs.Cells.{In, In-prop, IsRoot, CellsAreSound, part_at, tree_at, second_at};
+ghost use Rattle.prettyless_table.specs.Parts.{shares};
 
 use crate::table::Table;
+use prettyless_model::kind::{Pair, Single};
 use prettyless_model::mode::Mode;
 use prettyless_probe::walk::{View, Walk};
 use prettyless_summary::summary::Summary;
@@ -76,6 +78,18 @@ impl<'t, N: Walk> Placed<'t, N> {
         }
     }
 
+    // The part of a node that has one.
+    #[inline(always)]
+    fn part(&self, kind: Single, node: N) -> Self
+        requires { In self.now.table.now.cells.items (N.tree node) (part_at (shares kind) self.now.at) }
+        ensures { result.node ≡ node }
+    {
+        match kind {
+            Single::Indented(_) | Single::Group => self.inner(node),
+            Single::LineSuffix | Single::Flatten => self.first(node),
+        }
+    }
+
     // The second part.
     #[inline(always)]
     fn second(&self, node: N) -> Self
@@ -123,29 +137,13 @@ impl<'t, N: Walk> Walk for Placed<'t, N> {
             View::HardLine => View::HardLine,
             View::WeakLine => View::WeakLine,
             View::ExpandParent => View::ExpandParent,
-            View::Append(first, second) => View::Append(self.first(first), self.second(second)),
-            View::LineSuffix(inner) => View::LineSuffix(self.first(inner)),
-            View::Nest(offset, inner) => View::Nest(offset, self.inner(inner)),
-            View::DedentToRoot(inner) => View::DedentToRoot(self.inner(inner)),
-            View::Align(inner) => View::Align(self.inner(inner)),
-            View::Flatten(inner) => View::Flatten(self.first(inner)),
-            View::BreakOrFlat(first, second) => View::BreakOrFlat(
-                self.first(first),
-                self.second(second),
-            ),
-            View::Group(inner) => View::Group(self.inner(inner)),
-            View::Union(first, second) => View::Union(self.first(first), self.second(second)),
-            View::PartialUnion(first, second) => View::PartialUnion(
-                self.first(first),
-                self.second(second),
-            ),
-            View::OnColumn(test, first, second) => View::OnColumn(
-                test,
-                self.first(first),
-                self.second(second),
-            ),
-            View::OnNesting(test, first, second) => View::OnNesting(
-                test,
+            View::One(kind, inner) => View::One(kind, self.part(kind, inner)),
+            // An arm of its own, and of its own code: most nodes with two parts are this.
+            View::Two(Pair::Append, first, second) => {
+                View::Two(Pair::Append, self.first(first), self.second(second))
+            }
+            View::Two(kind, first, second) => View::Two(
+                kind,
                 self.first(first),
                 self.second(second),
             ),

@@ -1,16 +1,15 @@
 //! The summaries of a node, made of those of its parts, and how a cell keeps them.
 //! This file knows the parts of nodes, and no table.
-ghost use Rattle.std.specs.Prelude.{◌≡◌, ℤ, [], false, true};
-ghost use Rattle.prettyless_model.specs.Tree.{Tree};
+ghost use Rattle.std.specs.Prelude.{◌≡◌, [], false, true};
+ghost use Rattle.prettyless_model.specs.Tree.{One, Tree, Two};
 ghost use Rattle.prettyless_model.specs.Look.{Answers};
 ghost use Rattle.prettyless_model.specs.declared.mode.Mode.{Mode};
 ghost use Rattle.prettyless_model.specs.declared.mode.Mode.TheVariants.{Break, Flat};
 ghost use Rattle.prettyless_summary.specs.Summary.{IsSmall, ReadsLook, Summarizes};
-ghost use Rattle.prettyless_table.specs.Parts.{pair_tree, parts_of, single_tree, small};
+ghost use Rattle.prettyless_table.specs.Parts.{parts_of, small};
 ghost use Rattle.prettyless_table.specs.Sums.{AreDocumentSums, Keeps, IsModeSummary};
 
-use crate::below::{Shape, shape_of};
-use crate::kind::{Pair, Single};
+use prettyless_model::kind::{Pair, Single};
 use prettyless_model::mode::Mode;
 use prettyless_probe::walk::{View, Walk};
 use prettyless_summary::known::appended;
@@ -151,7 +150,7 @@ pub fn in_mode(sums: Sums, mode: Mode) -> Option<Summary>
 /// The summaries of a node with one part.
 #[inline(always)]
 pub fn of_single(kind: Single, inner: Sums) -> Sums
-    ensures { (k : ℤ) (d : Tree) → AreDocumentSums inner d → AreDocumentSums result (single_tree kind k d) }
+    ensures { (d : Tree) → AreDocumentSums inner d → AreDocumentSums result (One kind d) }
 {
     match kind {
         Single::LineSuffix => {
@@ -165,14 +164,14 @@ pub fn of_single(kind: Single, inner: Sums) -> Sums
             flat: inner.flat,
             broken: inner.flat,
         },
-        Single::Nest | Single::DedentToRoot | Single::Align | Single::Group => inner,
+        Single::Indented(_) | Single::Group => inner,
     }
 }
 
 /// The summaries of a node with two parts.
 #[inline(always)]
 pub fn of_pair(kind: Pair, first: Sums, second: Sums) -> Sums
-    ensures { (d e : Tree) → AreDocumentSums first d → AreDocumentSums second e → AreDocumentSums result (pair_tree kind d e) }
+    ensures { (d e : Tree) → AreDocumentSums first d → AreDocumentSums second e → AreDocumentSums result (Two kind d e) }
 {
     match kind {
         Pair::Append => Sums {
@@ -187,11 +186,12 @@ pub fn of_pair(kind: Pair, first: Sums, second: Sums) -> Sums
             flat: first.flat,
             broken: second.broken,
         },
+        Pair::Chosen(_) => NO_SUMS,
     }
 }
 
-/// No summaries.
-pub const NO_SUMS: Sums = Sums {
+// No summaries: a probe of a choice by column or nesting depends on more than the line.
+const NO_SUMS: Sums = Sums {
     flat: None,
     broken: None,
 };
@@ -202,10 +202,9 @@ pub fn small_sums<N: Walk>(node: &N) -> Sums
     requires { small (N.tree node.now) ≡ true }
     ensures { AreDocumentSums result (N.tree node.now) }
 {
-    match shape_of(node) {
-        Shape::Leaf => leaf_sums(node),
-        Shape::One(kind, _, inner) => of_single(kind, leaf_sums(&inner)),
-        Shape::Two(kind, first, second) => of_pair(kind, leaf_sums(&first), leaf_sums(&second)),
-        Shape::Choice(_, _) => NO_SUMS,
+    match node.view() {
+        View::One(kind, inner) => of_single(kind, leaf_sums(&inner)),
+        View::Two(kind, first, second) => of_pair(kind, leaf_sums(&first), leaf_sums(&second)),
+        _ => leaf_sums(node),
     }
 }

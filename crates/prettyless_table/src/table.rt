@@ -5,11 +5,11 @@ ghost use Rattle.prettyless_table.specs.Cells.{In};
 ghost use Rattle.prettyless_table.specs.Owners.{Stand};
 ghost use Rattle.prettyless_table.specs.Parts.{parts_of};
 
-use crate::below::{Parts, Shape, is_small, parts_below, shape_of};
+use crate::below::{Parts, is_small, parts_below};
 use crate::cell::Cell;
-use crate::sums::{NO_SUMS, Sums, in_mode, leaf_sums, of_pair, of_single, packed, small_sums};
+use crate::sums::{Sums, in_mode, leaf_sums, of_pair, of_single, packed, small_sums};
 use prettyless_model::mode::Mode;
-use prettyless_probe::walk::Walk;
+use prettyless_probe::walk::{View, Walk};
 use prettyless_summary::summary::Summary;
 use std::alloc::{AllocError, Global};
 
@@ -131,15 +131,14 @@ impl<N: Walk> Table<N> {
         requires second { SecondIn self.now.cells.items second (parts_of (N.tree node.now)) }
         ensures { AreDocumentSums result (N.tree node.now) }
     {
-        match shape_of(node) {
-            Shape::One(kind, _, inner) => of_single(kind, self.sums(&inner, self.last())),
-            Shape::Two(kind, first, other) => of_pair(
+        match node.view() {
+            View::One(kind, inner) => of_single(kind, self.sums(&inner, self.last())),
+            View::Two(kind, first, other) => of_pair(
                 kind,
                 self.sums(&first, self.last()),
                 self.sums(&other, second),
             ),
-            Shape::Choice(_, _) => NO_SUMS,
-            Shape::Leaf => leaf_sums(node),
+            _ => leaf_sums(node),
         }
     }
 

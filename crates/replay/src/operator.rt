@@ -1,6 +1,6 @@
 use crate::names::named_in;
 use prettyless::Doc;
-use prettyless_doc::parts::{Pair, Single};
+use prettyless_model::kind::{Indenting, Pair, Single};
 
 /// A node with nothing below it and no text.
 #[derive(Clone, Copy)]
@@ -50,8 +50,14 @@ const OPERATORS: [(&[u8], Operator); 15] = [
     (b"m", Operator::Payload),
     (b"nest", Operator::Nest),
     (b"sfx", Operator::Single(Single::LineSuffix)),
-    (b"root", Operator::Single(Single::DedentToRoot)),
-    (b"align", Operator::Single(Single::Align)),
+    (
+        b"root",
+        Operator::Single(Single::Indented(Indenting::DedentToRoot)),
+    ),
+    (
+        b"align",
+        Operator::Single(Single::Indented(Indenting::Align)),
+    ),
     (b"flat", Operator::Single(Single::Flatten)),
     (b"grp", Operator::Single(Single::Group)),
     (b"app", Operator::Pair(Pair::Append)),

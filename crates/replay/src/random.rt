@@ -8,7 +8,7 @@ use crate::refusal::Refusal;
 use bumpalo::Bump;
 use prettyless::text::{CowStr, Text};
 use prettyless::{Arena, ColumnTest, Doc, DocPlace, NestingTest, RefDoc};
-use prettyless_doc::parts::{Pair, Single};
+use prettyless_model::kind::{Indenting, Pair, Single};
 use prettyless_model::options::{IndentationPolicy, LineEnding, RenderOptions};
 use std::alloc::{AllocError, Global};
 
@@ -65,9 +65,9 @@ const SINGLES: [Single; 12] = [
     Single::LineSuffix,
     Single::LineSuffix,
     Single::LineSuffix,
-    Single::DedentToRoot,
-    Single::Align,
-    Single::Align,
+    Single::Indented(Indenting::DedentToRoot),
+    Single::Indented(Indenting::Align),
+    Single::Indented(Indenting::Align),
     Single::Flatten,
     Single::Group,
     Single::Group,
@@ -161,7 +161,7 @@ fn node<'a>(
         16..=17 => soft_line(place, dice),
         18..=24 => {
             let inner = operand(place, dice, made)?;
-            put(place, SINGLES[dice.roll(SINGLES.len())].around(inner))
+            put(place, Doc::around(SINGLES[dice.roll(SINGLES.len())], inner))
         }
         25..=26 => {
             let inner = operand(place, dice, made)?;
@@ -187,9 +187,12 @@ fn joined<'a>(
     first: RefDoc<'a>,
     second: RefDoc<'a>,
 ) -> Result<RefDoc<'a>, Refusal> {
-    let both = put(place, PAIRS[dice.roll(PAIRS.len())].of(first, second))?;
+    let both = put(
+        place,
+        Doc::of_two(PAIRS[dice.roll(PAIRS.len())], first, second),
+    )?;
     match dice.roll(3) {
-        0 => put(place, SINGLES[dice.roll(SINGLES.len())].around(both)),
+        0 => put(place, Doc::around(SINGLES[dice.roll(SINGLES.len())], both)),
         _ => Ok(both),
     }
 }

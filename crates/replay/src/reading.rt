@@ -9,7 +9,8 @@ use crate::text::text;
 use prettyless::text::Text;
 use prettyless::{Doc, DocPlace, DocPtr};
 use prettyless_doc::measure::holds_break;
-use prettyless_doc::parts::Pair;
+use prettyless_model::choice::ChoiceTest;
+use prettyless_model::kind::Pair;
 use std::alloc::Global;
 
 // Takes the text whose word comes next.
@@ -46,7 +47,7 @@ fn of_two<'a, T: DocPtr<'a>>(
     operands: &mut Vec<Operand<'a, T>>,
 ) -> Result<Doc<'a, T>, Refusal> {
     let first = take_document(operands)?;
-    Ok(kind.of(first, take_document(operands)?))
+    Ok(Doc::of_two(kind, first, take_document(operands)?))
 }
 
 // The operator's node over what comes after it.
@@ -63,10 +64,16 @@ fn node<'a, T: DocPtr<'a>>(
         }
         Operator::Payload => payload(alloc, operands),
         Operator::Nest => nest(operands),
-        Operator::Single(kind) => Ok(kind.around(take_document(operands)?)),
+        Operator::Single(kind) => Ok(Doc::around(kind, take_document(operands)?)),
         Operator::Pair(kind) => of_two(kind, operands),
-        Operator::OnColumn => of_two(Pair::OnColumn(take_column_test(operands)?), operands),
-        Operator::OnNesting => of_two(Pair::OnNesting(take_nesting_test(operands)?), operands),
+        Operator::OnColumn => {
+            let test = ChoiceTest::OnColumn(take_column_test(operands)?);
+            of_two(Pair::Chosen(test), operands)
+        }
+        Operator::OnNesting => {
+            let test = ChoiceTest::OnNesting(take_nesting_test(operands)?);
+            of_two(Pair::Chosen(test), operands)
+        }
     }
 }
 
@@ -84,7 +91,7 @@ fn put_in_front<'a, D: DocPlace<'a>>(
                 Operand::Document(place.alloc(node)?)
             }
             None => Operand::Word(word),
-        },
+        }
     };
     operands.push(operand)?;
     Ok(())

@@ -11,8 +11,8 @@ use Rattle.prettyless_model.specs.Shows.{AreFixed, IsWeaker, Implies, EndsLine, 
 use Rattle.prettyless_model.proofs.Gaps.{end_before, end_after}
 use Rattle.prettyless_model.proofs.Ink.{ink-after}
 use Rattle.prettyless_model.proofs.SpacedTexts.{text_begins}
-use Rattle.prettyless_laws.specs.Rows.{DoesNotHave, DoesNotShow, HasNoTexts, NoneIsEmpty, either_number, late_item, late_remark, late_with}
-use Rattle.prettyless_laws.specs.Rows.{lined, lined_items, numbers_items, numbers_with, one_number, one_number_items, remark_with}
+use Rattle.prettyless_laws.specs.Rows.{DoesNotHave, DoesNotShow, HasNoTexts, NoneIsEmpty, either_number, late_item, late_comment, late_with}
+use Rattle.prettyless_laws.specs.Rows.{lined, lined_items, numbers_items, numbers_with, one_number, one_number_items, comment_with}
 use Rattle.prettyless_laws.specs.Rows.{text_item, tight_line, two_late, two_late_items}
 use Rattle.prettyless_laws.proofs.rows.texts.Goals as goal
 
@@ -63,8 +63,8 @@ one_number_shows =
     (_, _, (_, loose ∷ [], inl refl, tight_line_shows, refl), inl refl, refl) in
     (_, _, (_, loose ∷ [], (_, Mark (codes ",") ∷ [], first, comma_shows, refl), tight_line_shows, refl), inl refl, refl)
 
-late_remark_shows : shows late_remark (late_with apart)
-late_remark_shows = (_, _, (_, _, inl refl, (_, inl refl, tt, refl), refl), (apart ∷ [], _, line_shows, inl refl, refl), refl)
+late_comment_shows : shows late_comment (late_with apart)
+late_comment_shows = (_, _, (_, _, inl refl, (_, inl refl, tt, refl), refl), (apart ∷ [], _, line_shows, inl refl, refl), refl)
 
 two_late_show : shows two_late two_late_items
 two_late_show =
@@ -93,14 +93,14 @@ flat_has_no_end ys (inr h) (inr k) = let least = k.4.1 in cc (h.2, k.3, least)
 
 -- the items between two texts, where a line is all that they are
 between : (first mid last : List Item) → TextShows (codes "# c") first → TextShows (codes "x") last
-    → remark_with (ended ∷ []) ≡ (first ++ mid) ++ last → ended ∷ [] ≡ mid
+    → comment_with (ended ∷ []) ≡ (first ++ mid) ++ last → ended ∷ [] ≡ mid
 between first mid last (inl e) (inl f) h =
-    let all : remark_with (ended ∷ []) ≡ text_item "# c" ∷ (mid ++ text_item "x" ∷ []) = rw (e, f) at h in
+    let all : comment_with (ended ∷ []) ≡ text_item "# c" ∷ (mid ++ text_item "x" ∷ []) = rw (e, f) at h in
     append_cancel_right (ended ∷ []) mid (text_item "x" ∷ []) (cc)
 between first mid last (inr h) f e = cc h.0
 between first mid last (inl h) (inr f) e = cc f.0
 
-line_is_no_end : DoesNotHave (pair "# c" "x") (remark_with (ended ∷ []))
+line_is_no_end : DoesNotHave (pair "# c" "x") (comment_with (ended ∷ []))
 line_is_no_end (before, last, (first, mid, h, (xs, ys, broken, flat, i, j), e), k, f) =
     flat_has_no_end ys flat (subst (Implies ys) (sym (between first mid last h k (rw e at f))) j)
 
@@ -161,7 +161,7 @@ not_on_one_line h =
     let k = starts 49 [] (codes "\n2") _ refl h in
     k.2.1 (ends_first k.0 (codes "2") k.1 50 (λ e. cc e) k.3)
 
-not_ended : DoesNotShow (codes "# c x") (remark_with (ended ∷ []))
+not_ended : DoesNotShow (codes "# c x") (comment_with (ended ∷ []))
 not_ended h =
     let k = starts 35 (codes " c") (codes " x") _ refl h in
     no_end (codes " x") refl (has_end k.0 (codes "x") k.1 (codes " x") k.3 (inl k.2.2))
@@ -278,25 +278,25 @@ pub returns-clause-failed_alternative : goal.returns-clause-failed_alternative
 unfolding lay lay_each breaks finish layout_by layout
 returns-clause-failed_alternative c = (([], _, ([], [], tt, refl, refl, refl), inl refl, refl), refl)
 
-pub returns-clause-remark : goal.returns-clause-remark
+pub returns-clause-comment : goal.returns-clause-comment
 unfolding lay lay_each breaks finish layout_by layout
-returns-clause-remark c = ((_, _, (_, _, inl refl, refl, refl), inl refl, refl), refl)
+returns-clause-comment c = ((_, _, (_, _, inl refl, refl, refl), inl refl, refl), refl)
 
-pub returns-clause-remark_weakly_ended : goal.returns-clause-remark_weakly_ended
+pub returns-clause-comment_weakly_ended : goal.returns-clause-comment_weakly_ended
 unfolding lay lay_each breaks finish layout_by layout
-returns-clause-remark_weakly_ended c = ((_, _, (_, _, inl refl, refl, refl), inl refl, refl), refl)
+returns-clause-comment_weakly_ended c = ((_, _, (_, _, inl refl, refl, refl), inl refl, refl), refl)
 
-pub returns-clause-remark_ended_twice : goal.returns-clause-remark_ended_twice
+pub returns-clause-comment_ended_twice : goal.returns-clause-comment_ended_twice
 unfolding lay lay_each breaks finish layout_by layout
-returns-clause-remark_ended_twice c = ((_, _, (_, _, (_, _, inl refl, refl, refl), refl, refl), inl refl, refl), refl)
+returns-clause-comment_ended_twice c = ((_, _, (_, _, (_, _, inl refl, refl, refl), refl, refl), inl refl, refl), refl)
 
 pub returns-clause-late_before_end : goal.returns-clause-late_before_end
 unfolding lay lay_each breaks finish layout_by layout
-returns-clause-late_before_end c = (late_remark_shows, refl)
+returns-clause-late_before_end c = (late_comment_shows, refl)
 
 pub returns-clause-late_after_group : goal.returns-clause-late_after_group
 unfolding lay lay_each breaks finish layout_by layout
-returns-clause-late_after_group c = (late_remark_shows, refl)
+returns-clause-late_after_group c = (late_comment_shows, refl)
 
 pub returns-clause-late_in_turn : goal.returns-clause-late_in_turn
 unfolding lay lay_each breaks finish layout_by layout

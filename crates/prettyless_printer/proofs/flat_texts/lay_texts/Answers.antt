@@ -1,12 +1,14 @@
 use Rattle.std.proofs.Common.{◌≡◌, ◌≤◌, [], rules, List, ◌∷◌, subst, sym, ap, ◌∙◌, refl, arith, vec_capacity}
+use Rattle.std.proofs.lemmas.List.Elements.{All-head}
+use Rattle.prettyless_probe.specs.Texts.{IsTexts}
 use Rattle.prettyless_sink.specs.declared.visits.Visits.{Visits}
 use Rattle.prettyless_model.specs.Tree.{Tree}
 use Rattle.prettyless_step.specs.declared.printer.Printer.{Printer}
 use Rattle.prettyless_printer.specs.Points.{point, seen, standing}
 use Rattle.prettyless_printer.specs.Laying.{laid_to, left_trees, trees_waiting}
 use Rattle.prettyless_printer.proofs.Laying.{Laid, OneNode, TextFails, left_at, left_begins, left_done, left_instead}
-use Rattle.prettyless_printer.proofs.Laying.{append_gives_way, either_gives_way, empty_gives_way, group_gives_way, nest_gives_way}
-use Rattle.prettyless_printer.proofs.Laying.{nil_gives_way, left_text, left_text_failed, left_trees-push}
+use Rattle.prettyless_printer.proofs.Laying.{append_gives_way, either_gives_way, empty_gives_way}
+use Rattle.prettyless_printer.proofs.Laying.{nil_gives_way, of_kind, one_gives_way, room_one, left_text, left_text_failed, left_trees-push}
 use Rattle.prettyless_printer.proofs.Laying.{length-left_trees, no_bytes, room_append, room_to_wait, some_bytes}
 use Rattle.prettyless_printer.proofs.flat_texts.lay_texts.Goals as goal
 use Rattle.prettyless_printer.proofs.flat_texts.lay_texts.Goals.{in-Text+then-not-is_empty+in_default-write_gap_and_text}
@@ -27,41 +29,45 @@ pub push_reserved-requires : goal.push_reserved-requires
 push_reserved-requires g c =
     let f = g.N.Walk.tree in
     let flat = c.nodes.printer.flat in
+    let two = c.in-Two-Append-default-default in
     omega (
       arith,
-      room_to_wait (left_trees f flat.items) (f c.in-Append.l) (f c.in-Append.r) c.in-Append.ensures.tree c.nodes.invariant.room,
+      room_to_wait (left_trees f flat.items) (f two.l) (f two.r) (of_kind two.field-0-is two.ensures.tree) c.nodes.invariant.room,
       length-left_trees f flat.items,
       flat.ok.0,
     )
 
-pub nodes-preserved-in-Append : goal.nodes-preserved-in-Append
-nodes-preserved-in-Append g c =
+pub nodes-preserved-in-Two-Append-default-default : goal.nodes-preserved-in-Two-Append-default-default
+nodes-preserved-in-Two-Append-default-default g c =
     let f = g.N.Walk.tree in
     let see = seen g.W.Render.bytes g.W.Render.failures g.W.Render.lender in
     let h = c.nodes.invariant in
     let one : OneNode c.nodes.count c.one_more-count.result =
     record { one = c.one_more-count.ensures.one; rises = c.one_more-count.ensures.rises; at_most = c.one_more-count.ensures.at_most } in
-    let pushed = ap (left_trees f) c.push_reserved.ensures.items ∙ left_trees-push f c.nodes.printer.flat.items c.in-Append.r in
+    let two = c.in-Two-Append-default-default in
+    let is = of_kind two.field-0-is two.ensures.tree in
+    let pushed = ap (left_trees f) c.push_reserved.ensures.items ∙ left_trees-push f c.nodes.printer.flat.items two.r in
     record {
       left = subst (λ (ds : List Tree). Laid (f c.args.first) (point f c.args.printer.now (see c.args.out.now) c.args.visits.now)
-          (f c.in-Append.l ∷ ds) c.nodes.is_written c.nodes.gap c.nodes.position
+          (f two.l ∷ ds) c.nodes.is_written c.nodes.gap c.nodes.position
           (see c.nodes.out) c.one_more-count.result) (sym pushed)
-          (left_instead (append_gives_way (f c.in-Append.l) (f c.in-Append.r)) c.in-Append.ensures.tree one h.left);
+          (left_instead (append_gives_way (f two.l) (f two.r)) is one h.left);
       printer = ap (λ (z : Printer g.row.N.Denot). record z { flat = c.push_reserved.new.self }) h.printer;
       visits = h.visits;
       room = omega (
         arith,
-        ap (λ (ds : List Tree). trees_waiting (f c.in-Append.l ∷ ds)) pushed,
-        room_append (left_trees f c.nodes.printer.flat.items) (f c.in-Append.l) (f c.in-Append.r) c.in-Append.ensures.tree h.room,
+        ap (λ (ds : List Tree). trees_waiting (f two.l ∷ ds)) pushed,
+        room_append (left_trees f c.nodes.printer.flat.items) (f two.l) (f two.r) is h.room,
         c.push_reserved.ensures.capacity,
       );
     }
 
-pub nodes-preserved-in-Nest : goal.nodes-preserved-in-Nest
-nodes-preserved-in-Nest g c =
+pub nodes-preserved-in-Two-BreakOrFlat-default-default : goal.nodes-preserved-in-Two-BreakOrFlat-default-default
+nodes-preserved-in-Two-BreakOrFlat-default-default g c =
     let h = c.nodes.invariant in
+    let is = of_kind c.in-Two-BreakOrFlat-default-default.field-0-is c.in-Two-BreakOrFlat-default-default.ensures.tree in
     record {
-      left = left_instead (nest_gives_way _ _) c.in-Nest.ensures.tree
+      left = left_instead (either_gives_way _ _) is
           (record {
             one = c.one_more-count.ensures.one;
             rises = c.one_more-count.ensures.rises;
@@ -71,14 +77,17 @@ nodes-preserved-in-Nest g c =
       printer = h.printer;
       visits = h.visits;
       room = subst (λ (z : Tree). trees_waiting (z ∷ left_trees g.N.Walk.tree c.nodes.printer.flat.items)
-          ≤ vec_capacity c.nodes.printer.flat) (sym c.in-Nest.ensures.tree) h.room;
+          ≤ vec_capacity c.nodes.printer.flat) (sym is) h.room;
     }
 
-pub nodes-preserved-in-Nest-2 : goal.nodes-preserved-in-Nest-2
-nodes-preserved-in-Nest-2 g c =
+pub nodes-preserved-in-One : goal.nodes-preserved-in-One
+nodes-preserved-in-One g c =
+    let f = g.N.Walk.tree in
     let h = c.nodes.invariant in
+    let is = c.in-One.ensures.tree in
+    let texts = subst IsTexts (sym is) (All-head IsTexts _ (left_trees f c.nodes.printer.flat.items) h.left.texts) in
     record {
-      left = left_instead (group_gives_way _) c.in-Nest.ensures.tree
+      left = left_instead (one_gives_way c.in-One.field-0 (f c.in-One.inner) texts) is
           (record {
             one = c.one_more-count.ensures.one;
             rises = c.one_more-count.ensures.rises;
@@ -87,25 +96,9 @@ nodes-preserved-in-Nest-2 g c =
           }) h.left;
       printer = h.printer;
       visits = h.visits;
-      room = subst (λ (z : Tree). trees_waiting (z ∷ left_trees g.N.Walk.tree c.nodes.printer.flat.items)
-          ≤ vec_capacity c.nodes.printer.flat) (sym c.in-Nest.ensures.tree) h.room;
-    }
-
-pub nodes-preserved-in-Nest-3 : goal.nodes-preserved-in-Nest-3
-nodes-preserved-in-Nest-3 g c =
-    let h = c.nodes.invariant in
-    record {
-      left = left_instead (either_gives_way _ _) c.in-Nest.ensures.tree
-          (record {
-            one = c.one_more-count.ensures.one;
-            rises = c.one_more-count.ensures.rises;
-            at_most =
-                c.one_more-count.ensures.at_most;
-          }) h.left;
-      printer = h.printer;
-      visits = h.visits;
-      room = subst (λ (z : Tree). trees_waiting (z ∷ left_trees g.N.Walk.tree c.nodes.printer.flat.items)
-          ≤ vec_capacity c.nodes.printer.flat) (sym c.in-Nest.ensures.tree) h.room;
+      room = room_one (left_trees f c.nodes.printer.flat.items) c.in-One.field-0 (f c.in-One.inner) texts
+          (subst (λ (z : Tree). trees_waiting (z ∷ left_trees f c.nodes.printer.flat.items) ≤ vec_capacity c.nodes.printer.flat)
+          (sym is) h.room);
     }
 
 pub returns-in-Err-clause-lays : goal.returns-in-Err-clause-lays
