@@ -63,7 +63,7 @@ enum pl_status {
     /* Memory was refused. The inline calls also answer this for a text longer than PL_LONGEST. */
     PL_MEMORY = 2,
     /* The layout comes to a node that cannot be laid: pl_fail, or a hard line or a payload of several lines in
-       pl_flatten. Of a TOML text: the layout is not TOML. No text is known for which that comes. */
+       pl_flatten. The calls for JSON and TOML never answer this. */
     PL_FAILS = 3,
     /* The layout is longer than the limit given. */
     PL_PAST_LIMIT = 4,

@@ -3,7 +3,7 @@ use Rattle.std.specs.Prelude.{◌≡◌, ◌≤◌, ◌<◌, ◌⊎◌, ℕ, Lis
 use Rattle.std.specs.Str.{IsUtf8}
 use Rattle.text_places.specs.Places.{IsPlaceWithin}
 use Rattle.prettyless_exports.specs.Overlay.{overlay, Holds, IsUntouched}
-use Rattle.toml_formatter.specs.Formats.{HasBadLayout, IsFormattedToml}
+use Rattle.toml_formatter.specs.Formats.{IsFormattedToml}
 use Rattle.toml_grammar.specs.Grammar.{is_toml}
 use Rattle.toml_grammar.specs.Refusals.{NamesBracket, NamesFault, nesting}
 use Rattle.toml_grammar.specs.declared.refusal.Refusal.{Refusal}
@@ -34,8 +34,6 @@ pub record AnswersToml (limit : ℕ) (text old new : List ℕ) (written line col
       × (length old < length bytes) × (new ≡ overlay bytes old) × (written ≡ length bytes)
   -- memory was refused, and the area is as it was
   pub memory : status ≡ 2 → IsUntouched old new written
-  -- the text is TOML, but its layout is none, and the area is as it was
-  pub bad_layout : status ≡ 3 → HasBadLayout text × IsUntouched old new written
   -- the layout is longer than the limit, and what is within the limit is in the area
   pub past_limit : status ≡ 4 → (bytes : List ℕ) × IsFormattedToml text bytes × (limit < length bytes)
       × Holds (take limit bytes) old new written
@@ -43,5 +41,5 @@ pub record AnswersToml (limit : ℕ) (text old new : List ℕ) (written line col
   pub not_toml : status ≡ 6 → IsTomlFault text old new written line column
   -- at the other statuses there is no place
   pub no_place : ¬ (status ≡ 6) → (line ≡ 0) × (column ≡ 0)
-  -- there is no other status
-  pub known : (status ≤ 4) ⊎ (status ≡ 6)
+  -- there is no other status; 3 comes of programs alone
+  pub known : (status ≤ 2) ⊎ (status ≡ 4) ⊎ (status ≡ 6)

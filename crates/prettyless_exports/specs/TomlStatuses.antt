@@ -3,7 +3,7 @@ use Rattle.std.specs.Prelude.{◌≡◌, ℕ, true, List}
 use Rattle.std.specs.Str.{IsUtf8}
 use Rattle.prettyless_exports.specs.Overlay.{IsUntouched}
 use Rattle.prettyless_exports.specs.Texts.{IsPut}
-use Rattle.toml_formatter.specs.Formats.{HasBadLayout, IsFormattedToml}
+use Rattle.toml_formatter.specs.Formats.{IsFormattedToml}
 use Rattle.toml_grammar.specs.Grammar.{is_toml}
 use Rattle.toml_grammar.specs.Nesting.{is_too_deep}
 use Rattle.prettyless_exports.specs.TomlAnswers.{IsTomlFault}
@@ -19,7 +19,6 @@ abbrev pub TomlStatusHolds : ℕ → List ℕ → List ℕ → List ℕ → ℕ 
 TomlStatusHolds limit text old new written (status.LaidOut put) = (bytes : List ℕ) × IsFormattedToml text bytes
     × IsPut limit bytes old new written put
 TomlStatusHolds limit text old new written status.Memory = IsUntouched old new written
-TomlStatusHolds limit text old new written status.Fails = HasBadLayout text × IsUntouched old new written
 TomlStatusHolds limit text old new written status.NotToml = (new ≡ old) × IsTooDeepIfToml text
 TomlStatusHolds limit text old new written s = ⊥
 

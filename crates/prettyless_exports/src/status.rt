@@ -13,7 +13,7 @@ pub enum Status {
     /// Memory was refused. Of the layout of a program, the area holds a beginning of `written` bytes, and of a text's none.
     Memory,
     /// The layout of a program's document fails. The area holds the bytes before the node that fails, as far as there is room:
-    /// `written` of them. Or the layout of a TOML text is no TOML. Then the area is as it was.
+    /// `written` of them.
     Fails,
     /// The bytes are no JSON text.
     NotJson,

@@ -28,10 +28,6 @@ fn laid_out(
     match formatted(alloc, text, style) {
         Ok(layout) => Status::LaidOut(put_text(layout.as_str(), limit, out, written)),
         Err(FormatError::NotToml | FormatError::TooDeep) => Status::NotToml,
-        Err(FormatError::LayoutNotToml) => {
-            *written = 0;
-            Status::Fails
-        }
         Err(FormatError::Memory(_)) => {
             *written = 0;
             Status::Memory

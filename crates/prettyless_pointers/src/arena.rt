@@ -96,12 +96,14 @@ impl<'a> IntoRef<'a> for DocBuilder<'a, Arena<'a>> {
     }
 }
 
-/// Puts nodes into a `Bump`, which its caller keeps and which gives them up all at once. Dropping an arena walks no
-/// document.
+/// Puts nodes into a `Bump`, which its caller keeps, and the frequent ones that hold others into one of its own. Each
+/// gives them up all at once. Dropping an arena walks no document.
 #[derive(Drop)]
 pub struct Arena<'a> {
     memory: Global,
     bump: &'a Bump,
+    // The frequent nodes that hold others are apart from texts: so a walk from one to the next finds them close together.
+    inner: Bump,
     placed: Cell<usize>,
     // Pointers to its constants; none where memory was refused for them.
     constants: &'a [RefDoc<'a>],
@@ -109,7 +111,8 @@ pub struct Arena<'a> {
 }
 
 impl<'a> Arena<'a> {
-    /// Nodes, and the owned texts in them, will be in `bump`. A text is first made in memory from `alloc`.
+    /// Nodes, and the owned texts in them, will be in `bump`, but appends, nests, groups and unions in chunks from `alloc`.
+    /// A text is first made in memory from `alloc`.
     ///
     /// It does not fail. Where memory for its constants is refused, each is placed anew when it is asked for, and `len`
     /// then counts it.
@@ -121,6 +124,7 @@ impl<'a> Arena<'a> {
         Arena {
             memory: alloc,
             bump,
+            inner: Bump::new(alloc),
             placed: Cell::new(0),
             constants: table(bump).unwrap_or(&[]),
         }
@@ -212,15 +216,14 @@ impl<'a> Arena<'a> {
         self.find(constant_of(doc)?)
     }
 
-    // Puts a node without a box into the bump.
+    // Puts a node without a box into a bump.
     #[inline(always)]
-    fn put(&self, doc: Doc<'a, RefDoc<'a>>) -> Result<RefDoc<'a>, BuildError>
+    fn put(&self, bump: &'a Bump, doc: Doc<'a, RefDoc<'a>>) -> Result<RefDoc<'a>, BuildError>
         requires { holds_memory doc ≡ false }
         ensures ok { IfOk result (λ p. ref_tree p ≡ tree_of ref_tree doc.entry) }
         ensures settled { IfOk result (λ p. holds_memory (out-RefDoc p).0.now ≡ false) }
         ensures err { IfErr result IsMemory }
     {
-        let bump: &'a Bump = self.bump;
         let node: &'a Doc<'a, RefDoc<'a>> = bump.try_alloc(doc)?;
         self.placed.set(self.placed.get().saturating_add(1));
         Ok(RefDoc(node))
@@ -228,34 +231,34 @@ impl<'a> Arena<'a> {
 
     // The same, where the chunk may have no room for the node.
     #[cold]
-    fn put_anew(&self, doc: Doc<'a, RefDoc<'a>>) -> Option<RefDoc<'a>>
+    fn put_anew(&self, bump: &'a Bump, doc: Doc<'a, RefDoc<'a>>) -> Option<RefDoc<'a>>
         requires { holds_memory doc ≡ false }
         ensures same { IfSome result (λ p. ref_tree p ≡ tree_of ref_tree doc.entry) }
         ensures settled { IfSome result (λ p. holds_memory (out-RefDoc p).0.now ≡ false) }
     {
-        self.put(doc).ok()
+        self.put(bump, doc).ok()
     }
 
     // The same. Where the chunk is known to have room, `put` needs no way to another one, and is a few instructions.
     #[inline(always)]
-    fn put_fast(&self, doc: Doc<'a, RefDoc<'a>>) -> Option<RefDoc<'a>>
+    fn put_fast(&self, bump: &'a Bump, doc: Doc<'a, RefDoc<'a>>) -> Option<RefDoc<'a>>
         requires { holds_memory doc ≡ false }
         ensures same { IfSome result (λ p. ref_tree p ≡ tree_of ref_tree doc.entry) }
         ensures settled { IfSome result (λ p. holds_memory (out-RefDoc p).0.now ≡ false) }
     {
-        if self.bump.chunk_capacity() < NODE_SIZE {
-            return self.put_anew(doc);
+        if bump.chunk_capacity() < NODE_SIZE {
+            return self.put_anew(bump, doc);
         }
-        self.put(doc).ok()
+        self.put(bump, doc).ok()
     }
 
     // Two documents, one after the other.
     #[inline(never)]
-    fn put_append(&self, first: RefDoc<'a>, second: RefDoc<'a>) -> Option<RefDoc<'a>>
+    fn put_append(&'a self, first: RefDoc<'a>, second: RefDoc<'a>) -> Option<RefDoc<'a>>
         ensures same { IfSome result (λ p. ref_tree p ≡ Append (ref_tree first.entry) (ref_tree second.entry)) }
         ensures settled { IfSome result (λ p. holds_memory (out-RefDoc p).0.now ≡ false) }
     {
-        self.put_fast(Doc::Append(first, second))
+        self.put_fast(&self.inner, Doc::Append(first, second))
     }
 
     // A text that is lent, or the pointer to a constant.
@@ -269,34 +272,34 @@ impl<'a> Arena<'a> {
                 return Some(space);
             }
         }
-        self.put_fast(Doc::Text(Text::Borrowed(text)))
+        self.put_fast(self.bump, Doc::Text(Text::Borrowed(text)))
     }
 
     // A document with another indent.
     #[inline(never)]
-    fn put_nest(&self, offset: isize, inner: RefDoc<'a>) -> Option<RefDoc<'a>>
+    fn put_nest(&'a self, offset: isize, inner: RefDoc<'a>) -> Option<RefDoc<'a>>
         ensures same { IfSome result (λ p. ref_tree p ≡ Nest offset (ref_tree inner.entry)) }
         ensures settled { IfSome result (λ p. holds_memory (out-RefDoc p).0.now ≡ false) }
     {
-        self.put_fast(Doc::Nest(offset, inner))
+        self.put_fast(&self.inner, Doc::Nest(offset, inner))
     }
 
     // A document in a group.
     #[inline(never)]
-    fn put_group(&self, inner: RefDoc<'a>) -> Option<RefDoc<'a>>
+    fn put_group(&'a self, inner: RefDoc<'a>) -> Option<RefDoc<'a>>
         ensures same { IfSome result (λ p. ref_tree p ≡ Group (ref_tree inner.entry)) }
         ensures settled { IfSome result (λ p. holds_memory (out-RefDoc p).0.now ≡ false) }
     {
-        self.put_fast(Doc::Group(inner))
+        self.put_fast(&self.inner, Doc::Group(inner))
     }
 
     // A document, and another one to be laid where it does not fit.
     #[inline(never)]
-    fn put_union(&self, first: RefDoc<'a>, second: RefDoc<'a>) -> Option<RefDoc<'a>>
+    fn put_union(&'a self, first: RefDoc<'a>, second: RefDoc<'a>) -> Option<RefDoc<'a>>
         ensures same { IfSome result (λ p. ref_tree p ≡ Union (ref_tree first.entry) (ref_tree second.entry)) }
         ensures settled { IfSome result (λ p. holds_memory (out-RefDoc p).0.now ≡ false) }
     {
-        self.put_fast(Doc::Union(first, second))
+        self.put_fast(&self.inner, Doc::Union(first, second))
     }
 
     // Any node: the pointer to a constant, or that of a new node, with a copy of its text where it holds a box.
@@ -310,14 +313,14 @@ impl<'a> Arena<'a> {
         }
         if holds_box(&doc) {
             let doc = settle(self.bump, doc).ok()?;
-            return self.put_fast(doc);
+            return self.put_fast(self.bump, doc);
         }
-        self.put_fast(doc)
+        self.put_fast(self.bump, doc)
     }
 
     // Any node, as its variant is placed.
     #[inline(always)]
-    fn put_any(&self, doc: Doc<'a, RefDoc<'a>>) -> Option<RefDoc<'a>>
+    fn put_any(&'a self, doc: Doc<'a, RefDoc<'a>>) -> Option<RefDoc<'a>>
         ensures same { IfSome result (λ p. ref_tree p ≡ tree_of ref_tree doc.entry) }
         ensures settled { IfSome result (λ p. holds_memory (out-RefDoc p).0.now ≡ false) }
     {

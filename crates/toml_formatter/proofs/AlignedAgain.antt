@@ -118,7 +118,7 @@ aligned_twice (p ∷ ps) st =
 
 -- ---- the grammar
 
-clear_spaces : (n : ℕ) → list_all (λ x. not (x == carriage_return)) (spaces n) ≡ true
+pub clear_spaces : (n : ℕ) → list_all (λ x. not (x == carriage_return)) (spaces n) ≡ true
 clear_spaces zero = refl
 clear_spaces (suc n) = clear_spaces n
 

@@ -16,7 +16,7 @@ use Rattle.toml_formatter.specs.Errors.{IsFormatMemory, IsRefusalWithin, IsRefus
 use Rattle.toml_formatter.specs.Kinds.{is_closing, is_opening, IsPart}
 use Rattle.toml_formatter.specs.Lexing.{ClosesNext}
 use Rattle.toml_formatter.specs.declared.error.FormatError.{FormatError}
-use Rattle.toml_formatter.specs.declared.error.FormatError.TheVariants.{NotToml, TooDeep, LayoutNotToml, Memory}
+use Rattle.toml_formatter.specs.declared.error.FormatError.TheVariants.{NotToml, TooDeep, Memory}
 
 -- ---- one lexeme
 
@@ -159,13 +159,11 @@ of_memory P (Err y) f h = f y h
 pub memory_within : (depth : ℕ) (ss : List (List ℕ)) (e : FormatError) → IsFormatMemory e → IsRefusalWithin depth ss e
 memory_within depth ss NotToml h = absurd h
 memory_within depth ss TooDeep h = absurd h
-memory_within depth ss LayoutNotToml h = absurd h
 memory_within depth ss (Memory x) h = tt
 
 pub memory_of : (text : List ℕ) (e : FormatError) → IsFormatMemory e → IsRefusalOf text e
 memory_of text NotToml h = absurd h
 memory_of text TooDeep h = absurd h
-memory_of text LayoutNotToml h = absurd h
 memory_of text (Memory x) h = tt
 
 -- no bracket may be open, and one more is
@@ -182,7 +180,6 @@ list_refused x o depth some old NotToml h = absurd h
 list_refused x o depth some old TooDeep h = λ n e.
     let deeper : n + 1 + (depth - 1) ≡ max_brackets = omega (arith, e, some) in
     opened x o depth some old n e ∙ h (n + 1) deeper
-list_refused x o depth some old LayoutNotToml h = absurd h
 list_refused x o depth some old (Memory y) h = tt
 
 -- what comes after these lexemes is refused
@@ -191,7 +188,6 @@ pub refused_after : (depth : ℕ) (old : List (List ℕ)) {between next : List (
     → between ≡ next → IsRefusalWithin depth next e → IsRefusalWithin depth old e
 refused_after depth old NotToml f is h = absurd h
 refused_after depth old TooDeep f is h = λ n e. f n e ∙ ap (λ ss. nest_too_deep n ss) is ∙ h n e
-refused_after depth old LayoutNotToml f is h = absurd h
 refused_after depth old (Memory x) f is h = tt
 
 -- a text of which the lexemes that are left are refused
@@ -200,5 +196,4 @@ pub text_refused : (text : List ℕ) {between next : List (List ℕ)} (e : Forma
     → between ≡ next → IsRefusalWithin max_brackets next e → IsRefusalOf text e
 text_refused text NotToml f is h = absurd h
 text_refused text TooDeep f is h = f 0 refl ∙ ap (λ ss. nest_too_deep 0 ss) is ∙ h 0 refl
-text_refused text LayoutNotToml f is h = absurd h
 text_refused text (Memory x) f is h = tt

@@ -1,13 +1,13 @@
 -- Layouts are spellings of their documents, written out.
 use Rattle.std.proofs.Common.{◌≡◌, refl, sym, ◌∙◌, ap, subst, ℕ, Bool, true, false}
-use Rattle.std.proofs.Common.{List, [], ◌∷◌, ◌++◌, append-nil, append_assoc, if◌then◌else◌, inl, inr}
+use Rattle.std.proofs.Common.{List, [], ◌∷◌, ◌++◌, append-nil, append_assoc, inl, inr}
 use Rattle.prettyless_model.specs.Options.{ending}
 use Rattle.prettyless_model.specs.Spaces.{spaces}
 use Rattle.prettyless_model.specs.Column.{gap, saturating_add}
 use Rattle.prettyless_model.specs.Indent.{indent_by}
 use Rattle.prettyless_model.specs.Tree.{Tree, Nil, Text, TextWithLen, HardLine, Append, Indented, ExpandParent, BreakOrFlat, Group}
 use Rattle.prettyless_model.specs.Layout.{State, Outcome, Done, Failed, Entry, Whole, after_bytes, and_then, break_with, breaks}
-use Rattle.prettyless_model.specs.Layout.{bytes_of, end_with, entry, initial, lay, lay_ending, lay_text, layout, next_indent, probe}
+use Rattle.prettyless_model.specs.Layout.{bytes_of, end_with, entry, initial, lay, lay_ending, lay_text, layout, next_indent}
 use Rattle.prettyless_model.specs.Levels.{queued, settle, settle_end}
 use Rattle.prettyless_model.specs.declared.mode.Mode.{Mode}
 use Rattle.prettyless_model.specs.declared.mode.Mode.TheVariants.{Break, Flat}
@@ -15,6 +15,9 @@ use Rattle.prettyless_model.specs.declared.options.IndentationPolicy.{Indentatio
 use Rattle.prettyless_model.specs.declared.options.IndentationPolicy.TheVariants.{Deferred}
 use Rattle.prettyless_model.specs.declared.options.RenderOptions.{RenderOptions}
 use Rattle.prettyless_model.proofs.Levels.{end_fixed, layout_is}
+use Rattle.toml_formatter.specs.TreesAgain.{first_mode, group_mode, group_modes, later_modes, layout_modes, modes_after, spelled_in}
+use Rattle.toml_formatter.specs.TreesAgainLaws.{LayoutsAreWrittenByModes}
+use Rattle.toml_formatter.proofs.LaidLike.{first_modes, second_modes}
 use Rattle.toml_formatter.specs.Spellings.{AreWritten, Bit, IsExact, IsSpelled, end_of_line, text_of, word_bits}
 
 -- ---- what is written
@@ -51,10 +54,8 @@ pub record IsClear (st : State) : Type 0 where
   pub pending : st.pending ≡ []
   pub gap : st.column.fresh ≡ false → gap st.column ≡ 0
 
--- what a document was laid to from a column on
-pub record Spells (o : RenderOptions) (d : Tree) (m : Mode) (fresh : Bool) (b : List ℕ) (u : State) : Type 0 where
-  pub bits : List Bit
-  pub spelled : IsSpelled d m bits
+-- bits were laid to these bytes from a column on
+pub record IsLaidTo (o : RenderOptions) (bits : List Bit) (fresh : Bool) (b : List ℕ) (u : State) : Type 0 where
   pub written : AreWritten o fresh bits b
   pub fresh_is : u.column.fresh ≡ begun_after fresh bits
   pub clear : IsClear u
@@ -84,11 +85,8 @@ split_then (Failed b) f c u h = absurd (cc)
 
 module _ (o : RenderOptions) where
   -- nothing is laid
-  nothing : (d : Tree) (m : Mode) (st u : State) (b : List ℕ) → IsSpelled d m [] → IsClear st → Done [] st ≡ Done b u
-      → Spells o d m st.column.fresh b u
-  nothing d m st u b none clear h = record {
-    bits = [];
-    spelled = none;
+  nothing : (st u : State) (b : List ℕ) → IsClear st → Done [] st ≡ Done b u → IsLaidTo o [] st.column.fresh b u
+  nothing st u b clear h = record {
     written = sym (done_bytes h);
     fresh_is = ap (λ (s : State). s.column.fresh) (sym (done_state h));
     clear = subst IsClear (done_state h) clear;
@@ -98,96 +96,95 @@ module _ (o : RenderOptions) where
   word_written true n s none = (n, [], ap (λ (l : List ℕ). spaces n ++ l) (sym (append-nil s)), refl)
   word_written false n s none = ([], ap (λ (k : ℕ). spaces k ++ s) (none refl) ∙ sym (append-nil s), refl)
 
-  text : (d : Tree) (m : Mode) (w : ℕ) (s : List ℕ) → ((bits : List Bit) → bits ≡ word_bits s → IsSpelled d m bits) → (st u : State)
-      (b : List ℕ) → IsClear st → lay_text o w s st ≡ Done b u → Spells o d m st.column.fresh b u
-  text d m w [] is st u b clear h = nothing d m st u b (is [] refl) clear h
-  text d m w (x ∷ s) is st u b clear h = record {
-    bits = text_of (x ∷ s) ∷ [];
-    spelled = is (text_of (x ∷ s) ∷ []) refl;
+  text : (w : ℕ) (s : List ℕ) (st u : State) (b : List ℕ) → IsClear st → lay_text o w s st ≡ Done b u
+      → IsLaidTo o (word_bits s) st.column.fresh b u
+  text w [] st u b clear h = nothing st u b clear h
+  text w (x ∷ s) st u b clear h = record {
     written = subst (AreWritten o st.column.fresh (text_of (x ∷ s) ∷ [])) (done_bytes h)
         (word_written st.column.fresh (gap st.column) (x ∷ s) clear.gap);
     fresh_is = ap (λ (t : State). t.column.fresh) (sym (done_state h));
     clear = subst IsClear (done_state h) (record { pending = clear.pending; gap = λ e. none_sum });
   }
 
-  line : (m : Mode) (k : ℕ) (st u : State) (b : List ℕ) → IsClear st → lay_ending o Deferred k st ≡ Done b u
-      → Spells o HardLine m st.column.fresh b u
-  line m k st u b clear h = record {
-    bits = end_of_line ∷ [];
-    spelled = refl;
+  line : (k : ℕ) (st u : State) (b : List ℕ) → IsClear st → lay_ending o Deferred k st ≡ Done b u
+      → IsLaidTo o (end_of_line ∷ []) st.column.fresh b u
+  line k st u b clear h = record {
     written = ([], sym (done_bytes h) ∙ sym (append-nil (ending o.line_ending)), refl);
     fresh_is = ap (λ (t : State). t.column.fresh) (sym (done_state h));
     clear = subst IsClear (done_state h) (record { pending = clear.pending; gap = λ e. absurd (cc) });
   }
 
-  both : (l r : Tree) (m : Mode) (fresh : Bool) (b c : List ℕ) (v u : State) → Spells o l m fresh b v → Spells o r m v.column.fresh c u
-      → Spells o (Append l r) m fresh (b ++ c) u
-  both l r m fresh b c v u x y = record {
-    bits = x.bits ++ y.bits;
-    spelled = (x.bits, y.bits, x.spelled, y.spelled, refl);
-    written =
-        written_both o fresh x.bits y.bits b c x.written (subst (λ (f : Bool). AreWritten o f y.bits c) x.fresh_is y.written);
-    fresh_is =
-        y.fresh_is ∙ ap (λ (f : Bool). begun_after f y.bits) x.fresh_is ∙ sym (begun_both fresh x.bits y.bits);
+  both : (xs ys : List Bit) (fresh : Bool) (b c : List ℕ) (v u : State) → IsLaidTo o xs fresh b v → IsLaidTo o ys v.column.fresh c u
+      → IsLaidTo o (xs ++ ys) fresh (b ++ c) u
+  both xs ys fresh b c v u x y = record {
+    written = written_both o fresh xs ys b c x.written (subst (λ (f : Bool). AreWritten o f ys c) x.fresh_is y.written);
+    fresh_is = y.fresh_is ∙ ap (λ (f : Bool). begun_after f ys) x.fresh_is ∙ sym (begun_both fresh xs ys);
     clear = y.clear;
-  }
-
-  -- the same of a document that is spelled so where this one is
-  of : (d e : Tree) (m n : Mode) (fresh : Bool) (b : List ℕ) (u : State) → ((bits : List Bit) → IsSpelled d m bits → IsSpelled e n bits)
-      → Spells o d m fresh b u → Spells o e n fresh b u
-  of d e m n fresh b u more x = record {
-    bits = x.bits;
-    spelled = more x.bits x.spelled;
-    written = x.written;
-    fresh_is = x.fresh_is;
-    clear = x.clear;
   }
 
   -- ---- documents
 
   module _ (later : o.indentation_policy ≡ Deferred) where
     plain_line : (m : Mode) (i : ℕ) (rest : List Entry) (st u : State) (b : List ℕ) → IsClear st
-        → settle o HardLine i m rest st ≡ Done b u → Spells o HardLine m st.column.fresh b u
+        → settle o HardLine i m rest st ≡ Done b u → IsLaidTo o (end_of_line ∷ []) st.column.fresh b u
     unfolding settle breaks
     plain_line m i rest st u b clear h =
         let q = queued st.pending in
         let is : break_with o (breaks o q) st.pending HardLine i m rest st ≡ lay_ending o Deferred (next_indent i rest) st =
         ap (λ (ps : List Tree). break_with o (breaks o q) ps HardLine i m rest st) clear.pending
         ∙ ap (λ (p : IndentationPolicy). lay_ending o p (next_indent i rest) st) later in
-        line m (next_indent i rest) st u b clear (sym is ∙ h)
+        line (next_indent i rest) st u b clear (sym is ∙ h)
 
-    laid : (d : Tree) → IsExact d → (i : ℕ) (m : Mode) (rest : List Entry) (st u : State) (b : List ℕ) → IsClear st
-        → lay o (settle o) d i m rest st ≡ Done b u → Spells o d m st.column.fresh b u
+    -- a document whose groups were laid in these modes
+    laid : (d : Tree) → IsExact d → (i : ℕ) (m : Mode) (rest : List Entry) (st u : State) (b : List ℕ) (more ms : List Mode) → IsClear st
+        → group_modes o d i m rest st more ≡ ms → lay o (settle o) d i m rest st ≡ Done b u
+        → IsLaidTo o (spelled_in d m ms) st.column.fresh b u
     unfolding lay
-    laid Nil exact i m rest st u b clear h = nothing Nil m st u b refl clear h
-    laid (Text s) exact i m rest st u b clear h = text (Text s) m _ s (λ bits e. e) st u b clear h
-    laid (TextWithLen w s) exact i m rest st u b clear h = text (TextWithLen w s) m w s (λ bits e. e) st u b clear h
-    laid HardLine exact i Break rest st u b clear h = plain_line Break i rest st u b clear h
-    laid HardLine exact i Flat rest st u b clear h = absurd (cc)
-    laid (Append l r) exact i m rest st u b clear h =
+    laid Nil exact i m rest st u b more ms clear e h = nothing st u b clear h
+    laid (Text s) exact i m rest st u b more ms clear e h = text _ s st u b clear h
+    laid (TextWithLen w s) exact i m rest st u b more ms clear e h = text w s st u b clear h
+    laid HardLine exact i Break rest st u b more ms clear e h = plain_line Break i rest st u b clear h
+    laid HardLine exact i Flat rest st u b more ms clear e h = absurd (cc)
+    laid (Append l r) exact i m rest st u b more ms clear e h =
         let parts = split_then (lay o (settle o) l i m (entry i r ∷ rest) st) (λ v. lay o (settle o) r i m rest v) b u h in
-        let first = laid l exact.0 i m (entry i r ∷ rest) st parts.0 parts.1 clear parts.3 in
-        let second = laid r exact.1 i m rest parts.0 u parts.2 first.clear parts.4 in
-        subst (λ (c : List ℕ). Spells o (Append l r) m st.column.fresh c u) parts.5
-        (both l r m st.column.fresh parts.1 parts.2 parts.0 u first second)
-    laid (Indented how d) exact i m rest st u b clear h =
-        of d (Indented how d) m m st.column.fresh b u (λ bits e. e) (laid d exact (indent_by how i st.column) m rest st u b clear h)
-    laid ExpandParent exact i m rest st u b clear h = nothing ExpandParent m st u b refl clear h
-    laid (BreakOrFlat x y) exact i Break rest st u b clear h =
-        of x (BreakOrFlat x y) Break Break st.column.fresh b u (λ bits e. e) (laid x exact.0 i Break rest st u b clear h)
-    laid (BreakOrFlat x y) exact i Flat rest st u b clear h =
-        of y (BreakOrFlat x y) Flat Flat st.column.fresh b u (λ bits e. e) (laid y exact.1 i Flat rest st u b clear h)
-    laid (Group d) exact i Break rest st u b clear h =
-        by (λ n k. laid d exact i n rest st u b clear k) (probe o d i Flat rest st) h
-      where
-        by : ((n : Mode) → lay o (settle o) d i n rest st ≡ Done b u → Spells o d n st.column.fresh b u)
-            → (p : Bool) → lay o (settle o) d i (if p then Flat else Break) rest st ≡ Done b u
-            → Spells o (Group d) Break st.column.fresh b u
-        by inner true k = of d (Group d) Flat Break st.column.fresh b u (λ bits e. inr e) (inner Flat k)
-        by inner false k = of d (Group d) Break Break st.column.fresh b u (λ bits e. inl e) (inner Break k)
-    laid (Group d) exact i Flat rest st u b clear h =
-        of d (Group d) Flat Flat st.column.fresh b u (λ bits e. e) (laid d exact i Flat rest st u b clear h)
-    laid d exact i m rest st u b clear h = absurd exact
+        let before = first_modes o l r i m rest st more ms e in
+        let first = laid l exact.0 i m (entry i r ∷ rest) st parts.0 parts.1 before.0 ms clear before.1 parts.3 in
+        let modes = second_modes o l r i m rest st more ms parts.1 parts.0 e parts.3 in
+        let second = laid r exact.1 i m rest parts.0 u parts.2 more (modes_after l m ms) first.clear modes parts.4 in
+        subst (λ (c : List ℕ). IsLaidTo o (spelled_in (Append l r) m ms) st.column.fresh c u) parts.5
+        (both (spelled_in l m ms) (spelled_in r m (modes_after l m ms)) st.column.fresh parts.1 parts.2 parts.0 u first second)
+    laid (Indented how d) exact i m rest st u b more ms clear e h = laid d exact (indent_by how i st.column) m rest st u b more ms clear e h
+    laid ExpandParent exact i m rest st u b more ms clear e h = nothing st u b clear h
+    laid (BreakOrFlat x y) exact i Break rest st u b more ms clear e h = laid x exact.0 i Break rest st u b more ms clear e h
+    laid (BreakOrFlat x y) exact i Flat rest st u b more ms clear e h = laid y exact.1 i Flat rest st u b more ms clear e h
+    laid (Group d) exact i Break rest st u b more ms clear e h =
+        subst (λ (n : Mode). IsLaidTo o (spelled_in d n (later_modes ms)) st.column.fresh b u) (ap first_mode e)
+        (laid d exact i (group_mode o d i rest st) rest st u b more (later_modes ms) clear (ap later_modes e) h)
+    laid (Group d) exact i Flat rest st u b more ms clear e h = laid d exact i Flat rest st u b more ms clear e h
+    laid d exact i m rest st u b more ms clear e h = absurd exact
+
+-- ---- spellings
+
+spelled_group : (d : Tree) (n : Mode) (bits : List Bit) → IsSpelled d n bits → IsSpelled (Group d) Break bits
+spelled_group d Break bits h = inl h
+spelled_group d Flat bits h = inr h
+
+-- a document may be spelled as it is where its groups are laid in any modes
+pub spelled_so : (d : Tree) (m : Mode) (ms : List Mode) → IsSpelled d m (spelled_in d m ms)
+spelled_so Nil m ms = refl
+spelled_so (Text s) m ms = refl
+spelled_so (TextWithLen w s) m ms = refl
+spelled_so HardLine m ms = refl
+spelled_so (Append l r) m ms =
+    (spelled_in l m ms, spelled_in r m (modes_after l m ms), spelled_so l m ms, spelled_so r m (modes_after l m ms), refl)
+spelled_so (Indented how d) m ms = spelled_so d m ms
+spelled_so ExpandParent m ms = refl
+spelled_so (BreakOrFlat b f) Break ms = spelled_so b Break ms
+spelled_so (BreakOrFlat b f) Flat ms = spelled_so f Flat ms
+spelled_so (Group d) Break ms =
+    spelled_group d (first_mode ms) (spelled_in d (first_mode ms) (later_modes ms)) (spelled_so d (first_mode ms) (later_modes ms))
+spelled_so (Group d) Flat ms = spelled_so d Flat ms
+spelled_so d m ms = tt
 
 -- ---- whole layouts
 
@@ -201,12 +198,18 @@ whole_end o (Done b t) c h none =
     (t, ap (λ (l : List ℕ). Done l t) (sym (append-nil b) ∙ same))
 whole_end o (Failed b) c h none = absurd (cc)
 
+-- a layout is written as its document is spelled in the modes of its groups
+pub layout_written : LayoutsAreWrittenByModes
+layout_written o d bytes later exact h =
+    let start : IsClear initial = record { pending = refl; gap = λ e. none_sum } in
+    let first = lay o (settle o) d 0 Break [] initial in
+    let modes = layout_modes o d in
+    let done = whole_end o first bytes (sym (layout_is o d) ∙ h)
+    (λ b u e. (laid o later d exact 0 Break [] initial u b [] modes start refl e).clear.pending) in
+    (laid o later d exact 0 Break [] initial done.0 bytes [] modes start refl done.1).written
+
 pub layouts_are_spellings : (o : RenderOptions) (d : Tree) (bytes : List ℕ) → o.indentation_policy ≡ Deferred → IsExact d
     → layout o d ≡ Whole bytes → (bits : List Bit) × IsSpelled d Break bits × AreWritten o true bits bytes
 layouts_are_spellings o d bytes later exact h =
-    let start : IsClear initial = record { pending = refl; gap = λ e. none_sum } in
-    let first = lay o (settle o) d 0 Break [] initial in
-    let done = whole_end o first bytes (sym (layout_is o d) ∙ h)
-    (λ b u e. (laid o later d exact 0 Break [] initial u b start e).clear.pending) in
-    let spells = laid o later d exact 0 Break [] initial done.0 bytes start done.1 in
-    (spells.bits, spells.spelled, spells.written)
+    let modes = layout_modes o d in
+    (spelled_in d Break modes, spelled_so d Break modes, layout_written o d bytes later exact h)

@@ -32,7 +32,8 @@ clash p q = cc
 abbrev AreAlone : List (List ℕ) → Type 0
 AreAlone ss = All (λ s. cut_toml between s ≡ s ∷ []) ss
 
-one_spaced : (g s rest : List ℕ) → IsTomlGap g → cut_toml between s ≡ s ∷ [] → MayFollow s rest
+-- the first lexeme of a text, with the gap before it
+pub one_spaced : (g s rest : List ℕ) → IsTomlGap g → cut_toml between s ≡ s ∷ [] → MayFollow s rest
     → toml_spaced_lexemes (g ++ (s ++ rest)) ≡ after_toml_gap g s ∷ toml_spaced_lexemes rest
 one_spaced g s rest gap alone follows =
     let each = All-cons (λ t. cut_toml between t ≡ t ∷ []) s (toml_lexemes_of rest) alone (lexemes_alone rest) in

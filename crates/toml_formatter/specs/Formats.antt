@@ -14,7 +14,7 @@ use Rattle.toml_grammar.specs.Nesting.{is_too_deep}
 use Rattle.toml_lexemes.specs.Statements.{statements}
 use Rattle.toml_formatter.specs.Lines.{HasStatements}
 use Rattle.toml_formatter.specs.declared.error.FormatError.{FormatError}
-use Rattle.toml_formatter.specs.declared.error.FormatError.TheVariants.{NotToml, TooDeep, LayoutNotToml, Memory}
+use Rattle.toml_formatter.specs.declared.error.FormatError.TheVariants.{NotToml, TooDeep, Memory}
 
 -- These bytes are the text laid out.
 pub record IsFormattedToml (text bytes : List ℕ) : Type 0 where
@@ -63,17 +63,8 @@ pub record IsTomlLayout (text bytes : List ℕ) : Type 0 where
   -- They have the same statements.
   pub same : statements bytes ≡ statements text
 
--- The text is TOML, and not too deep, but its layout is no TOML.
-pub record HasBadLayout (text : List ℕ) : Type 0 where
-  pub toml : is_toml text ≡ true
-  pub shallow : is_too_deep text ≡ false
-  pub bytes : List ℕ
-  pub laid_out : IsTomlLayout text bytes
-  pub invalid : is_toml bytes ≡ false
-
--- the text is no TOML; or it is, and brackets are too deep in one another, its layout is no TOML, or memory was refused
+-- the text is no TOML; or it is, and brackets are too deep in one another, or memory was refused
 abbrev pub IsRefusedToml : List ℕ → FormatError → Type 0
 IsRefusedToml text NotToml = is_toml text ≡ false
 IsRefusedToml text TooDeep = (is_toml text ≡ true) × (is_too_deep text ≡ true)
-IsRefusedToml text LayoutNotToml = HasBadLayout text
 IsRefusedToml text (Memory e) = Unit {0}

@@ -12,8 +12,6 @@ pub enum FormatError {
     NotToml,
     /// Brackets are deeper in one another than 128.
     TooDeep,
-    /// The layout of the text is no TOML. No text is known for which this comes.
-    LayoutNotToml,
     /// Memory was refused.
     Memory(AllocError),
 }

@@ -61,8 +61,8 @@ fn laid_out(alloc: Global, text: &str, style: Style) -> Result<String, FormatErr
 /// first line of the text does that ends outside of strings. It ends with a line end, unless it is empty.
 ///
 /// `NotToml` only where the text is no TOML, and `TooDeep` only where it is TOML and more than 128 brackets are in one
-/// another. `LayoutNotToml` only where the layout that was made is no TOML, which is judged before it is answered.
-/// `Memory` where memory is refused, whatever the text is.
+/// another. `Memory` where memory is refused, whatever the text is. The layout is not judged again: that it is TOML is proved
+/// (`law_toml`).
 ///
 /// ```
 /// formatted(alloc, "a=1", Style::default())? // "a = 1\n"
@@ -76,11 +76,7 @@ pub fn formatted(alloc: Global, text: &str, style: Style) -> Result<String, Form
         Some(_) => Err(FormatError::NotToml),
         None => {
             law_closed_strings();
-            let layout = laid_out(alloc, text, style)?;
-            match fault_of(alloc, layout.as_str())? {
-                Some(_) => Err(FormatError::LayoutNotToml),
-                None => Ok(layout),
-            }
+            laid_out(alloc, text, style)
         }
     }
 }

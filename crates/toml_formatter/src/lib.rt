@@ -21,7 +21,7 @@ mod trim;
 mod walk;
 
 pub use error::FormatError;
-pub use laws::{law_alignment, law_layout};
+pub use laws::{law_again, law_alignment, law_layout, law_toml};
 pub use layout::formatted;
 pub use style::Style;
 pub use toml_grammar::MAX_DEPTH;

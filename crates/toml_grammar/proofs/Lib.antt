@@ -8,3 +8,5 @@ mod Refused
 mod Steps
 pub mod Allowed
 pub mod Depths
+pub mod GapLaws
+pub mod KeyWords

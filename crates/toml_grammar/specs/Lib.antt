@@ -17,3 +17,4 @@ pub mod Opened
 pub mod Stops
 pub mod Refusals
 pub mod Laws
+pub mod GapLaws

@@ -1,3 +1,4 @@
+ghost use Rattle.toml_grammar.specs.GapLaws.{GapsAreUnseen, KeyWordsAreJoined};
 ghost use Rattle.toml_grammar.specs.Laws.{CommentsOfTomlAreClear, StringsOfTomlAreClosed};
 ghost use Rattle.toml_grammar.specs.WordLaws.{KeyStringsAreStrings, CommentsEndWithNoReturn, CommentsHoldNoReturn};
 ghost use Rattle.toml_grammar.specs.WordLaws.{StringsAreClosed};
@@ -18,3 +19,11 @@ pub fn law_closed_strings()
 {
     law_closed();
 }
+
+/// What the grammar does not see. Which blanks stand before a lexeme is one thing but between the brackets of a header of an array
+/// of tables, where none do, before a time, where one space does, and for CR, which stands before LF alone. And two words that
+/// may follow each other in a key are one word side by side.
+pub fn law_unseen()
+    ensures gaps { GapsAreUnseen }
+    ensures keys { KeyWordsAreJoined }
+{}

@@ -2,7 +2,7 @@
 
 /// What is open until its bracket comes.
 #[derive(Clone, Copy, Debug, PartialEq, Eq)]
-pub(crate) enum Bracket {
+pub enum Bracket {
     Array,
     /// An inline table.
     Table,
@@ -10,7 +10,7 @@ pub(crate) enum Bracket {
 
 /// What a key is of, which says what ends it.
 #[derive(Clone, Copy, Debug, PartialEq, Eq)]
-pub(crate) enum Owner {
+pub enum Owner {
     /// `key = value`
     Value,
     /// `[key]`
@@ -21,7 +21,7 @@ pub(crate) enum Owner {
 
 /// What may come next.
 #[derive(Clone, Copy, Debug, PartialEq, Eq)]
-pub(crate) enum Next {
+pub enum Next {
     /// The beginning of a line outside of brackets.
     Line,
     /// What follows the bracket that begins a line.

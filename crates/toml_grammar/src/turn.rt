@@ -18,7 +18,7 @@ use toml_lexemes::{Lexeme, Spaced};
 
 /// What a lexeme does.
 #[derive(Clone, Copy, Debug, PartialEq, Eq)]
-pub(crate) enum LexemeTurn {
+pub enum LexemeTurn {
     /// It may stand there, and this may come after it.
     GoesOn(Next),
     /// It opens a bracket, in which this may come.

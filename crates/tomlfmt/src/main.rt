@@ -20,7 +20,7 @@ use formatter_files::message::{say_expected, say_opened, say_word};
 use request::requested;
 use std::fs::Files;
 use std::io;
-use std::io::{ErrorKind, Write};
+use std::io::Write;
 use std::process::ExitCode;
 use std::rt::Env;
 use std::str::from_utf8;
@@ -74,12 +74,6 @@ fn refuse<R: AllocGlobal + Eprint>(rt: &R, name: &str, bytes: &[u8]) -> io::Resu
     eprintln!(rt)
 }
 
-// A layout that was made is no TOML, and so it is not written.
-fn bad_layout() -> io::Error {
-    let error = "the layout is no TOML, which is a fault of tomlfmt";
-    io::Error::new(ErrorKind::InvalidData, error)
-}
-
 // Writes a layout that is made.
 fn write<W: Write>(writer: &mut W, layout: &str) -> Result<Verdict, LayoutError>
     ensures ok { OnOk result (Appends (W.contents writer.old) (W.contents writer.new) layout.now) }
@@ -129,7 +123,6 @@ impl Formatter for Toml {
             match formatted(rt.alloc(), text, self.0) {
                 Ok(layout) => return write(writer, layout.as_str()),
                 Err(FormatError::NotToml | FormatError::TooDeep) => {}
-                Err(FormatError::LayoutNotToml) => return Err(LayoutError::Text(bad_layout())),
                 Err(FormatError::Memory(error)) => {
                     return Err(LayoutError::Text(io::Error::from(error)));
                 }
