@@ -21,8 +21,11 @@ pub mod LaidParts
 pub mod LaidValues
 pub mod Layouts
 pub mod Lines
+pub mod Narrow
+pub mod NextPieces
 pub mod Outputs
 pub mod Pieces
+pub mod PlainLeft
 pub mod ReadOn
 pub mod Respelled
 pub mod Readers

@@ -1,8 +1,10 @@
 -- What is left of a layout, with the blank lines that it keeps, as it is spelled.
-use Rattle.std.specs.Prelude.{ℕ, false, List, ◌++◌, Option, Some, None, if◌then◌else◌}
-use Rattle.json_lexemes.specs.SpacedLexemes.{Spaced, put_together, spaced_as}
+use Rattle.std.specs.Prelude.{◌≡◌, ℕ, false, List, ◌++◌, Option, Some, None, is_some, if◌then◌else◌}
+use Rattle.json.specs.Ascii.{comma}
+use Rattle.json_lexemes.specs.SpacedLexemes.{Spaced, after_lexeme, first_spaces, put_together, spaced_as}
 use Rattle.prettyless_model.specs.Spaces.{spaces}
-use Rattle.json_formatter.specs.BlankLines.{kept_from}
+use Rattle.json_formatter.specs.BlankLines.{kept_from, kept_gap}
+use Rattle.json_formatter.specs.Documents.{is_json_sign}
 use Rattle.json_formatter.specs.Gaps.{gap_bytes, spaced_from}
 use Rattle.json_formatter.specs.Pieces.{lexemes_of_pieces}
 use Rattle.json_formatter.specs.Spelling.{respelled_all, tabs}
@@ -27,6 +29,21 @@ kept_left style st (Some kept) ss =
 -- their bytes
 abbrev pub laid_left : Style → State → Option Kept → Spelling → List (List ℕ) → List ℕ
 laid_left style st kept sp ss = put_together (respelled_all sp (kept_left style st kept ss))
+
+-- the next gap, with the empty line that is kept there
+abbrev pub gap_kept : Option Kept → List ℕ → List ℕ
+gap_kept None gap = gap
+gap_kept (Some kept) gap = kept_gap kept.after_comma (first_spaces kept.blank_lines) gap
+
+-- after the next lexeme
+abbrev pub kept_after : Option Kept → List ℕ → Option Kept
+kept_after None s = None
+kept_after (Some kept) s =
+    Some (record { blank_lines = after_lexeme kept.blank_lines s; after_comma = is_json_sign comma s })
+
+-- no blank lines are kept, line ends are line feeds, and indents spaces
+abbrev pub IsPlain : Option Kept → Spelling → Type 0
+IsPlain kept sp = (is_some kept ≡ false) × (sp.crlf ≡ false) × (sp.tab ≡ 0)
 
 -- before the first lexeme of a text
 abbrev pub kept_of : Style → List ℕ → Option Kept

@@ -1,4 +1,3 @@
-pub mod Ahead
 pub mod BlankLines
 pub mod Blanks
 pub mod ByValue

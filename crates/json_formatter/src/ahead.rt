@@ -1,33 +1,32 @@
-ghost use Rattle.std.specs.Prelude.{◌≡◌, ℕ, List, [], ◌∷◌, IfSome, MatchOption};
+ghost use Rattle.std.specs.Prelude.{◌≡◌, Bool, true, not, ◌&&◌, [], ◌∷◌, IfSome, MatchOption};
 ghost use Rattle.json.specs.Ascii.{comma};
-ghost use Rattle.json_lexemes.specs.SpacedLexemes.{after_gap, spaced_lexemes, Spaced};
+ghost use Rattle.json_lexemes.specs.SpacedLexemes.{spaced_lexemes};
 ghost use Rattle.json_lexemes.specs.View.{text_of, IsNamed};
 ghost use Rattle.json_formatter.specs.Documents.{closes, is_json_sign, next_is, opens, stops};
-ghost use Rattle.json_formatter.specs.Pieces.{begins_line, piece, pieces_of};
+ghost use Rattle.json_formatter.specs.Pieces.{begins_line, pieces_of};
 ghost use Rattle.json_formatter.specs.PieceTexts.{piece_text, IsPiece};
 
 use crate::piece::Piece;
 use json_lexemes::{Lexeme, SpacedLexer, has_line_end};
 use std::marker::Model;
 
-/// The pieces of a text, with one lexeme that is read ahead. A clause sees how those that are left are spelled.
+/// The pieces of a text. A clause sees how those that are left are spelled.
 #[derive(Drop)]
 pub(crate) struct Ahead<'a> {
     lexer: SpacedLexer<'a>,
-    next: Option<Lexeme<'a>>,
     /// Whether line ends keep no list broken.
     compact: bool,
 }
 
 impl<'a> Model for Ahead<'a> {
-    ghost use Rattle.std.specs.Prelude.{ℕ, List};
-    ghost use Rattle.json_formatter.specs.Ahead.{pieces_left, IsAhead};
+    ghost use Rattle.std.specs.Prelude.{ℕ, List, ⊤};
+    ghost use Rattle.json_formatter.specs.Pieces.{pieces_of};
 
     ghost Value = { List (List ℕ) };
 
-    ghost view = { λ a. pieces_left a.compact a.next a.lexer };
+    ghost view = { λ a. pieces_of a.compact a.lexer };
 
-    ghost invariant = { λ a. IsAhead a.next a.lexer };
+    ghost invariant = { λ a. ⊤ };
 }
 
 // Whether the lexeme opens a list.
@@ -39,33 +38,29 @@ fn opens_list(lexeme: Lexeme<'_>) -> bool
     matches!(lexeme, Lexeme::OpenObject | Lexeme::OpenArray)
 }
 
-// Whether a lexeme after these spaces begins a line, and closes no list.
+// Whether no lexeme is left, or the next one closes a list.
 #[inline(always)]
-fn begins_line(spaces: &[u8], lexeme: Lexeme<'_>) -> bool
-    requires { IsNamed lexeme }
-    ensures { (later : List Spaced) → result ≡ begins_line (after_gap spaces.now (text_of lexeme.entry) ∷ later) }
+fn list_ends(lexemes: &SpacedLexer<'_>) -> bool
+    ensures { (compact : Bool) → result ≡ stops closes (pieces_of compact lexemes.now) }
 {
-    !matches!(lexeme, Lexeme::CloseObject | Lexeme::CloseArray) && has_line_end(spaces)
+    matches!(lexemes.first_byte(), None | Some(b'}' | b']'))
 }
 
-// The piece that a lexeme is before another one, which comes after these spaces.
+// Whether the next lexeme begins a line, and closes no list.
 #[inline(always)]
-fn piece_before<'a>(
-    compact: bool,
-    lexeme: Lexeme<'a>,
-    spaces: &[u8],
-    later: Lexeme<'_>,
-) -> Piece<'a>
-    requires named { IsNamed lexeme }
-    requires later { IsNamed later }
-    ensures text { (rest : List Spaced) → piece_text result
-        ≡ piece compact (text_of lexeme.entry) (after_gap spaces.now (text_of later.entry) ∷ rest) }
-    ensures kind { IsPiece result }
+fn begins_line(lexemes: &SpacedLexer<'_>) -> bool
+    ensures { result ≡ begins_line lexemes.now }
 {
-    if compact || !opens_list(lexeme) {
-        return Piece::new(lexeme, false);
-    }
-    Piece::new(lexeme, begins_line(spaces, later))
+    !list_ends(lexemes) && has_line_end(lexemes.gap())
+}
+
+// Whether the list that the lexeme opens is kept broken, where it opens one.
+#[inline(always)]
+fn keeps_broken(compact: bool, lexeme: Lexeme<'_>, later: &SpacedLexer<'_>) -> bool
+    requires { IsNamed lexeme }
+    ensures { opens (text_of lexeme.entry) ≡ true → result ≡ (not compact && begins_line later.now) }
+{
+    !compact && opens_list(lexeme) && begins_line(later)
 }
 
 impl<'a> Ahead<'a> {
@@ -73,14 +68,8 @@ impl<'a> Ahead<'a> {
     pub(crate) fn new(text: &'a str, compact: bool) -> Ahead<'a>
         ensures { result ≡ pieces_of compact (spaced_lexemes text.now) }
     {
-        let mut lexer = SpacedLexer::new(text);
-        let next = match lexer.next() {
-            Some((_, lexeme)) => Some(lexeme),
-            None => None,
-        };
         Ahead {
-            lexer,
-            next,
+            lexer: SpacedLexer::new(text),
             compact,
         }
     }
@@ -92,7 +81,6 @@ impl<'a> Ahead<'a> {
     {
         Ahead {
             lexer: self.lexer.again(),
-            next: self.next,
             compact: self.compact,
         }
     }
@@ -104,17 +92,9 @@ impl<'a> Ahead<'a> {
             (λ piece. self.old ≡ piece_text piece ∷ self.new) }
         ensures kind { IfSome result IsPiece }
     {
-        let lexeme = self.next?;
-        match self.lexer.next() {
-            Some((spaces, later)) => {
-                self.next = Some(later);
-                Some(piece_before(self.compact, lexeme, spaces, later))
-            }
-            None => {
-                self.next = None;
-                Some(Piece::new(lexeme, false))
-            }
-        }
+        let lexeme = self.lexer.next()?;
+        let breaks = keeps_broken(self.compact, lexeme, &self.lexer);
+        Some(Piece::new(lexeme, breaks))
     }
 
     /// Whether nothing is left of the list that is open here but what closes it.
@@ -122,10 +102,7 @@ impl<'a> Ahead<'a> {
     pub(crate) fn is_at_end(&self) -> bool
         ensures { result ≡ stops closes self.now }
     {
-        matches!(
-            self.next,
-            None | Some(Lexeme::CloseObject | Lexeme::CloseArray)
-        )
+        list_ends(&self.lexer)
     }
 
     /// Whether a comma comes next.
@@ -133,6 +110,6 @@ impl<'a> Ahead<'a> {
     pub(crate) fn next_is_comma(&self) -> bool
         ensures { result ≡ next_is (is_json_sign comma) self.now }
     {
-        matches!(self.next, Some(Lexeme::Comma))
+        matches!(self.lexer.first_byte(), Some(b','))
     }
 }

@@ -1,5 +1,5 @@
-ghost use Rattle.std.specs.Prelude.{◌≡◌, ◌≤◌, MatchOption};
-ghost use Rattle.prettyless_model.specs.Metrics.{text_width};
+ghost use Rattle.std.specs.Prelude.{◌≡◌, ◌+◌, ◌≤◌, true, length, take, drop, MatchOption};
+ghost use Rattle.prettyless_model.specs.Metrics.{is_ascii, text_width};
 ghost use Rattle.json_formatter.specs.Documents.{greatest_width, lexeme_of};
 ghost use Rattle.json_formatter.specs.Flat.{piece_columns};
 ghost use Rattle.json_formatter.specs.PieceTexts.{piece_text, IsPiece};
@@ -7,17 +7,68 @@ ghost use Rattle.json_formatter.specs.PieceTexts.{piece_text, IsPiece};
 use crate::ahead::Ahead;
 use crate::piece::Piece;
 use prettyless_text::measure::is_ascii;
+use std::simd::prelude::*;
 use unicode_width::UnicodeWidthStr;
 
+/// Whether four bytes from a place on are below 128. They are tested side by side.
+#[inline(always)]
+fn four_are_ascii(bytes: &[u8], from: usize) -> bool
+    requires { from + 4 ≤ length bytes.now }
+    ensures { result ≡ is_ascii (take 4 (drop from bytes.now)) }
+{
+    u8x4::from_slice(&bytes[from..])
+        .simd_ge(u8x4::splat(128))
+        .to_bitmask()
+        == 0
+}
+
+/// How many bytes come before the first step of four in which one is not below 128, or fewer are left.
+#[inline(always)]
+fn ascii_front(bytes: &[u8]) -> usize
+    ensures bounds { result ≤ length bytes.now }
+    ensures ascii { is_ascii (take result bytes.now) ≡ true }
+{
+    let mut front = 0;
+    while bytes.len() - front >= 4 && four_are_ascii(bytes, front) {
+        front += 4;
+    }
+    front
+}
+
+/// Whether all bytes are below 128. It is made for a text of few bytes.
+#[inline(always)]
+fn is_short_ascii(bytes: &[u8]) -> bool
+    ensures { result ≡ is_ascii bytes.now }
+{
+    for place in ascii_front(bytes)..bytes.len() {
+        if bytes[place] >= 128 {
+            return false;
+        }
+    }
+    true
+}
+
 /// The columns that a text takes: its bytes where each is below 128, and else its display width.
-#[inline]
-fn columns(text: &str) -> usize
+#[inline(never)]
+fn long_columns(text: &str) -> usize
     ensures { result ≡ text_width text.now }
 {
     if is_ascii(text) {
         text.len()
     } else {
         text.width()
+    }
+}
+
+/// The same. Most texts have few bytes, all below 128.
+#[inline(always)]
+fn columns(text: &str) -> usize
+    ensures { result ≡ text_width text.now }
+{
+    if text.len() <= 16 && is_short_ascii(text.as_bytes()) {
+        text.len()
+    } else {
+        long_columns(text)
     }
 }
 

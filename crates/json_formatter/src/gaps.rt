@@ -7,7 +7,8 @@ ghost use Rattle.json_formatter.specs.Gaps.{all_fill, close_after, flat_after, f
 ghost use Rattle.json_formatter.specs.Gaps.{indent_at, list_fits, mark_after, number_fits, open_at, start_state, state_after};
 ghost use Rattle.json_formatter.specs.Gaps.{value_at};
 ghost use Rattle.json_formatter.specs.Gaps.{value_gap, word_end};
-ghost use Rattle.json_formatter.specs.Kept.{kept_of, laid_left, spelled_bytes};
+ghost use Rattle.json_formatter.specs.Kept.{gap_kept, kept_after, kept_of, laid_left, spelled_bytes};
+ghost use Rattle.json_formatter.specs.Spelling.{respelled};
 ghost use Rattle.json_formatter.specs.Pieces.{text_pieces};
 ghost use Rattle.json_formatter.specs.PieceTexts.{piece_text, IsPiece};
 
@@ -325,18 +326,20 @@ pub(crate) struct Layout<'a> {
     /// Where it stands in the text, if blank lines are kept.
     kept: Option<Kept<'a>>,
     spelling: Spelling,
+    /// Whether no blank lines are kept, line ends are line feeds, and indents spaces.
+    plain: bool,
 }
 
 impl<'a> Model for Layout<'a> {
-    ghost use Rattle.std.specs.Prelude.{ℕ, ◌<◌, List};
+    ghost use Rattle.std.specs.Prelude.{◌≡◌, ℕ, ◌<◌, List, true};
     ghost use Rattle.json_formatter.specs.Documents.{greatest_width};
-    ghost use Rattle.json_formatter.specs.Kept.{laid_left};
+    ghost use Rattle.json_formatter.specs.Kept.{laid_left, IsPlain};
 
     ghost Value = { List ℕ };
 
     ghost view = { λ a. laid_left a.style a.state a.kept a.spelling a.pieces };
 
-    ghost invariant = { λ a. a.style.width < greatest_width };
+    ghost invariant = { λ a. (a.style.width < greatest_width) × (a.plain ≡ true → IsPlain a.kept a.spelling) };
 }
 
 impl<'a> Layout<'a> {
@@ -355,6 +358,7 @@ impl<'a> Layout<'a> {
                 None
             },
             spelling,
+            plain: !style.blank_lines && spelling.is_plain(),
         }
     }
 
@@ -378,9 +382,28 @@ impl<'a> Layout<'a> {
         let piece = self.pieces.next()?;
         let gap = self.state.step(self.style, piece, &mut self.pieces);
         let lexeme = piece.lexeme();
-        match &mut self.kept {
-            Some(kept) => Some((self.spelling.spell(kept.gap(gap, lexeme)), lexeme)),
-            None => Some((self.spelling.spell(gap), lexeme)),
+        if self.plain {
+            return Some((Spelled::Plain(gap), lexeme));
         }
+        let spelled = spell_kept(self.spelling, &mut self.kept, gap, lexeme);
+        Some((spelled, lexeme))
+    }
+}
+
+// The gap before the next lexeme as it is spelled, with an empty line where one is kept. Goes past that lexeme.
+#[inline(always)]
+fn spell_kept(
+    spelling: Spelling,
+    kept: &mut Option<Kept<'_>>,
+    gap: Gap,
+    lexeme: Lexeme<'_>,
+) -> Spelled
+    requires { IsNamed lexeme }
+    ensures gap { spelled_bytes result ≡ respelled spelling (gap_kept kept.old (gap_bytes gap)) }
+    ensures left { kept.new ≡ kept_after kept.old (text_of lexeme.entry) }
+{
+    match kept {
+        Some(kept) => spelling.spell(kept.gap(gap, lexeme)),
+        None => spelling.spell(gap),
     }
 }

@@ -130,18 +130,18 @@ impl<'a> Scanner<'a> {
         ensures end { IfOk result (λ more. more ≡ false
             → IsLast self.old.compact self.old.pieces × (self.new ≡ self.old)) }
     {
-        let mut pieces = self.pieces.again();
-        let Some(piece) = pieces.next() else {
+        let before = self.pieces.again();
+        let Some(piece) = self.pieces.next() else {
             return Ok(false);
         };
-        let Some(columns) = piece_columns(self.compact, piece, &pieces) else {
+        let Some(columns) = piece_columns(self.compact, piece, &self.pieces) else {
+            self.pieces = before;
             return Ok(false);
         };
         let Some(total) = self.total.checked_add(columns) else {
             return Err(AllocError);
         };
         self.total = total;
-        self.pieces = pieces;
         if opens(piece) {
             self.opened()?;
         } else if closes(piece) {

@@ -82,9 +82,9 @@ impl Spelling {
         }
     }
 
-    // Whether line ends are line feeds, and indents spaces.
+    /// Whether line ends are line feeds, and indents spaces.
     #[inline(always)]
-    fn is_plain(self) -> bool
+    pub(crate) fn is_plain(self) -> bool
         ensures { result ≡ true → (self.crlf ≡ false) × (self.tab ≡ 0) }
     {
         !self.crlf && self.tab == 0

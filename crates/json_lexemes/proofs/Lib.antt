@@ -9,9 +9,11 @@ mod Sound
 pub mod Reading
 mod Places
 mod Runs
+mod Lanes
 mod Firsts
 pub mod NotEmpty
 pub mod SpacedLexemes
+mod NextSpaced
 mod Spelling
 mod Values
 pub mod Grammar

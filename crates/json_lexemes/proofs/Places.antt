@@ -1,11 +1,12 @@
 -- The cut of a text, between two places of it.
-use Rattle.std.proofs.Common.{◌≡◌, ℕ, ◌+◌, ◌-◌, ◌<◌, ◌≤◌, ◌≢◌, true, false, List, [], ◌∷◌, ◌++◌, length, take, drop, get_or, inl, inr}
+use Rattle.std.proofs.Common.{◌≡◌, ℕ, zero, suc, ◌+◌, ◌-◌, ◌<◌, ◌≤◌, ◌≢◌, true, false, List, [], ◌∷◌, ◌++◌, length, take, drop, get_or, inl, inr}
 use Rattle.std.proofs.Common.{◌⊎◌, sym, ap, ap₂, ◌∙◌, subst, arith, append_assoc, append-nil, length-drop, take-append-drop, drop-drop}
 use Rattle.std.proofs.lemmas.Bool.{or_cases, cases_lt, ne_eqb}
 use Rattle.std.proofs.lemmas.List.{take_more, drop_more, drop_all, take_all, get_or-drop}
 use Rattle.json.specs.Word.{is_operator, is_space, ends_word}
 use Rattle.json.specs.Lex.{Mode, between, in_word, in_string, in_escape}
 use Rattle.json_lexemes.specs.Lexemes.{lengthened, cut}
+use Rattle.json_lexemes.specs.Words.{StringGoesOn}
 use Rattle.json_lexemes.proofs.Classes.{each_space, each_operator}
 use Rattle.json_lexemes.proofs.Ended.{ends}
 use Rattle.json_lexemes.proofs.Words.{IsRun, cut-run}
@@ -129,3 +130,14 @@ inside_escape d from place le lt b h = subst (IsInside d from) two (go (cases_lt
     go : (place + 1 < length d) ⊎ (length d ≤ place + 1) → IsInside d from (place + 1 + 1)
     go (inl more) = escaped_more d from (place + 1) (omega arith) more (escape_more d from place le lt b h)
     go (inr past) = escaped_end d from (place + 1) (omega arith) past (escape_more d from place le lt b h)
+
+-- so many bytes more
+pub inside_far : (d : List ℕ) (from place k : ℕ) → from ≤ place → place + k ≤ length d → StringGoesOn d place (place + k) →
+    IsInside d from place → IsInside d from (place + k)
+inside_far d from place zero le within on h = let same : place ≡ place + 0 = omega arith in subst (IsInside d from) same h
+inside_far d from place (suc k) le within on h =
+    let last = on (place + k) (omega arith) (omega arith) in
+    let next : place + k + 1 ≡ place + suc k = omega arith in
+    subst (IsInside d from) next
+    (inside_more d from (place + k) (omega arith) (omega arith) last.0 last.1
+    (inside_far d from place k le (omega arith) (λ i a b. on i a (omega arith)) h))

@@ -110,7 +110,7 @@ spaced_are_lexemes text = spaced_lexemes_of text (lexemes text)
 -- ---- the next lexeme
 
 -- so many bytes are the spaces that come first
-spaces_taken : (xs : List ℕ) → take (length (first_spaces xs)) xs ≡ first_spaces xs
+pub spaces_taken : (xs : List ℕ) → take (length (first_spaces xs)) xs ≡ first_spaces xs
 spaces_taken [] = refl
 spaces_taken (x ∷ xs) = by (spaces_taken xs) (cases_Bool (is_space x))
   where

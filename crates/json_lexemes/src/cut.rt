@@ -1,13 +1,14 @@
-ghost use Rattle.std.specs.Prelude.{◌≡◌, ◌+◌, ◌-◌, ◌<◌, ◌≤◌, ◌∷◌, ◌||◌, false, length, take, drop, slice_index, IsTrue};
+ghost use Rattle.std.specs.Prelude.{◌≡◌, ◌+◌, ◌-◌, ◌<◌, ◌≤◌, ◌∷◌, ◌||◌, false, length, take, drop, slice_index};
 ghost use Rattle.std.specs.Str.{IsCharBoundary};
 ghost use Rattle.json.specs.Word.{is_operator, is_space};
 ghost use Rattle.json.specs.Lex.{between, in_string, in_word};
 ghost use Rattle.json_lexemes.specs.Lexemes.{cut};
 ghost use Rattle.json_lexemes.specs.SpacedLexemes.{first_spaces};
 ghost use Rattle.json_lexemes.specs.View.{text_of, IsNamed, IsFirst};
-ghost use Rattle.json_lexemes.specs.Words.{WordGoesOn};
+ghost use Rattle.json_lexemes.specs.Words.{StringGoesOn, WordGoesOn};
 
 use crate::lexeme::Lexeme;
+use std::simd::prelude::*;
 
 /// Whether the byte is one of JSON's spaces. One test shows that most bytes are none.
 #[inline]
@@ -44,50 +45,29 @@ pub(crate) fn spaces_end(bytes: &[u8], from: usize) -> usize
     bytes.len()
 }
 
-/// Whether no byte here ends a word, since all are digits, points, minus signs or slashes. They are tested side by side.
+/// How many of the next 16 bytes are digits, letters, points, minus signs and slashes, before the first that is none of these. None
+/// of them ends a word. They are tested side by side, where 16 are left.
 #[inline(always)]
-fn end_no_word(bytes: &[u8]) -> bool
-    ensures { IsTrue result → WordGoesOn bytes.now 0 (length bytes.now) }
-{
-    let mut others = false;
-    for byte in bytes {
-        others |= (*byte < b'-') | (*byte > b'9');
-    }
-    !others
-}
-
-/// A place up to which no byte ends a word that goes on at `from`: after the last step of 16 digits.
-fn digits_end(bytes: &[u8], from: usize) -> usize
+fn word_len(bytes: &[u8], from: usize) -> usize
     requires { from ≤ length bytes.now }
-    ensures bounds { (from ≤ result) × (result ≤ length bytes.now) }
-    ensures goes_on { WordGoesOn bytes.now from result }
+    ensures bounds { from + result ≤ length bytes.now }
+    ensures goes_on { WordGoesOn bytes.now from (from + result) }
 {
-    let mut place = from;
-    while bytes.len() - place >= 16 && end_no_word(&bytes[place..place + 16]) {
-        place += 16;
+    if bytes.len() - from < 16 {
+        return 0;
     }
-    place
+    let next = u8x16::from_slice(&bytes[from..]);
+    let digits = (next - u8x16::splat(b'-')).simd_lt(u8x16::splat(13));
+    let letters = ((next | u8x16::splat(b' ')) - u8x16::splat(b'a')).simd_lt(u8x16::splat(26));
+    let others = (!(digits | letters)).to_bitmask();
+    if others == 0 {
+        16
+    } else {
+        others.trailing_zeros() as usize
+    }
 }
 
-/// The place where the word ends that goes on at `from`, and still does at `near`.
-fn long_word_end(bytes: &[u8], from: usize, near: usize) -> usize
-    requires within { (from ≤ near) × (near ≤ length bytes.now) }
-    requires goes_on { WordGoesOn bytes.now from near }
-    ensures bounds { (from ≤ result) × (result ≤ length bytes.now) }
-    ensures cut { cut in_word (drop from bytes.now)
-        ≡ take (result - from) (drop from bytes.now) ∷ cut between (drop result bytes.now) }
-    ensures ended { result < length bytes.now → slice_index bytes.now result < 128 }
-{
-    let far = digits_end(bytes, near);
-    for place in far..bytes.len() {
-        if ends_word(bytes[place]) {
-            return place;
-        }
-    }
-    bytes.len()
-}
-
-/// The place where the word ends that goes on at `from`. Short ones end among the first bytes, which are tested one by one.
+/// The place where the word ends that goes on at `from`.
 #[inline(always)]
 fn word_end(bytes: &[u8], from: usize) -> usize
     requires { from ≤ length bytes.now }
@@ -96,17 +76,39 @@ fn word_end(bytes: &[u8], from: usize) -> usize
         ≡ take (result - from) (drop from bytes.now) ∷ cut between (drop result bytes.now) }
     ensures ended { result < length bytes.now → slice_index bytes.now result < 128 }
 {
-    let near = from + (bytes.len() - from).min(24);
-    for place in from..near {
+    let mut place = from;
+    while place < bytes.len() {
         if ends_word(bytes[place]) {
             return place;
         }
+        place += 1 + word_len(bytes, place + 1);
     }
-    long_word_end(bytes, from, near)
+    bytes.len()
+}
+
+/// How many of the next 16 bytes come before a quote or a backslash. They are tested side by side, where 16 are left.
+#[inline(always)]
+fn plain_len(bytes: &[u8], from: usize) -> usize
+    requires { from ≤ length bytes.now }
+    ensures bounds { from + result ≤ length bytes.now }
+    ensures goes_on { StringGoesOn bytes.now from (from + result) }
+{
+    if bytes.len() - from < 16 {
+        return 0;
+    }
+    let next = u8x16::from_slice(&bytes[from..]);
+    let quotes = next.simd_eq(u8x16::splat(b'"'));
+    let backslashes = next.simd_eq(u8x16::splat(b'\\'));
+    let others = (quotes | backslashes).to_bitmask();
+    if others == 0 {
+        16
+    } else {
+        others.trailing_zeros() as usize
+    }
 }
 
 /// The place after the closing quote of the string that goes on at `from`, or the end where there is none.
-#[inline]
+#[inline(always)]
 fn string_end(bytes: &[u8], from: usize) -> usize
     requires { from ≤ length bytes.now }
     ensures bounds { (from ≤ result) × (result ≤ length bytes.now) }
@@ -120,7 +122,7 @@ fn string_end(bytes: &[u8], from: usize) -> usize
         match bytes[place] {
             b'"' => return place + 1,
             b'\\' => place += 2,
-            _ => place += 1,
+            _ => place += 1 + plain_len(bytes, place + 1),
         }
     }
     bytes.len()

@@ -1,16 +1,21 @@
-ghost use Rattle.std.specs.Prelude.{◌≡◌, [], ◌∷◌, nat_le, MatchOption};
+ghost use Rattle.std.specs.Prelude.{◌≡◌, ℕ, ◌≤◌, List, [], ◌∷◌, length, drop, nat_le, MatchOption};
+ghost use Rattle.std.specs.Str.{IsCharBoundary};
 ghost use Rattle.json_lexemes.specs.SpacedLexemes.{after_gap, line_feeds, spaced_lexemes};
+ghost use Rattle.json_lexemes.specs.SpacedLexer.{IsFirstByte, IsFirstGap};
 ghost use Rattle.json_lexemes.specs.View.{text_of, IsNamed};
 
 use crate::cut::{lexeme_at, spaces_end};
 use crate::lexeme::Lexeme;
 use std::marker::Model;
 
-/// Returns the lexemes of a text one by one, in their order, each with the spaces before it. It takes no memory. A clause sees
-/// those that are left.
+/// Returns the lexemes of a text one by one, in their order. Of the next one it knows the spaces before it and the first byte. It
+/// takes no memory. A clause sees those that are left, each after its gap.
 #[derive(Drop)]
 pub struct SpacedLexer<'a> {
     text: &'a str,
+    /// Where the spaces before the next lexeme begin.
+    from: usize,
+    /// Where the next lexeme begins, or the end.
     place: usize,
 }
 
@@ -31,7 +36,18 @@ impl<'a> SpacedLexer<'a> {
     pub fn new(text: &'a str) -> SpacedLexer<'a>
         ensures { result ≡ spaced_lexemes text.now }
     {
-        SpacedLexer { text, place: 0 }
+        SpacedLexer::from_place(text, 0)
+    }
+
+    // Returns those from this place on.
+    #[inline(always)]
+    fn from_place(text: &'a str, from: usize) -> SpacedLexer<'a>
+        requires within { from ≤ length text.now }
+        requires boundary { IsCharBoundary text.now from }
+        ensures { result ≡ spaced_lexemes (drop from text.now) }
+    {
+        let place = spaces_end(text.as_bytes(), from);
+        SpacedLexer { text, from, place }
     }
 
     /// Another one, which returns the same lexemes.
@@ -41,27 +57,46 @@ impl<'a> SpacedLexer<'a> {
     {
         SpacedLexer {
             text: self.text,
+            from: self.from,
             place: self.place,
         }
     }
 
-    /// The spaces before the next lexeme, and the lexeme, or `None` where none is left.
+    /// The spaces before the next lexeme.
     #[inline(always)]
-    pub fn next(&mut self) -> Option<(&'a [u8], Lexeme<'a>)>
+    pub fn gap(&self) -> &'a [u8]
+        ensures { IsFirstGap self.now result.now }
+    {
+        &self.text.as_bytes()[self.from..self.place]
+    }
+
+    /// The first byte of the next lexeme, or `None` where none is left.
+    #[inline(always)]
+    pub fn first_byte(&self) -> Option<u8>
+        ensures { MatchOption result (self.now ≡ []) (IsFirstByte self.now) }
+    {
+        let bytes = self.text.as_bytes();
+        if self.place < bytes.len() {
+            Some(bytes[self.place])
+        } else {
+            None
+        }
+    }
+
+    /// The next lexeme, or `None` where none is left.
+    #[inline(always)]
+    pub fn next(&mut self) -> Option<Lexeme<'a>>
         ensures next { MatchOption result ((self.old ≡ []) × (self.new ≡ []))
-            (λ next. (self.old ≡ after_gap next.0.now (text_of next.1) ∷ self.new) × IsNamed next.1) }
+            (λ lexeme. (gap : List ℕ) × (self.old ≡ after_gap gap (text_of lexeme) ∷ self.new) × IsNamed lexeme) }
     {
         let text = self.text;
-        let from = self.place;
-        let bytes = text.as_bytes();
-        let place = spaces_end(bytes, from);
+        let place = self.place;
         if place == text.len() {
-            self.place = place;
             return None;
         }
         let lexeme = lexeme_at(text, place);
-        self.place = place + lexeme.text().len();
-        Some((&bytes[from..place], lexeme))
+        *self = SpacedLexer::from_place(text, place + lexeme.text().len());
+        Some(lexeme)
     }
 }
 

@@ -11,7 +11,7 @@ returns-in_ok-opened-clause-scanned c = λ rests k.
     let s = piece_text c.in-Some.piece in
     let old = c.args.self.now in
     let before : IsScanned old.compact rests old.lists.items old.unclosed.items old.total (s ∷ c.next.new.self)
-    = subst (IsScanned old.compact rests old.lists.items old.unclosed.items old.total) (sym c.again-pieces.ensures ∙ c.in-Some.ensures.next) k in
+    = subst (IsScanned old.compact rests old.lists.items old.unclosed.items old.total) c.in-Some.ensures.next k in
     let opening : opens s ≡ true = sym c.opens.ensures ∙ c.if-opens.true in
     let total : c.in-Some-checked_add.total ≡ old.total + piece_columns old.compact s c.next.new.self
     = c.in-Some-checked_add.ensures.1 ∙ ap (λ n. old.total + n) c.in-Some-piece_columns.ensures in
@@ -23,7 +23,7 @@ returns-in_ok-closed-clause-scanned c = λ rests k.
     let s = piece_text c.in-Some.piece in
     let old = c.args.self.now in
     let before : IsScanned old.compact rests old.lists.items old.unclosed.items old.total (s ∷ c.next.new.self)
-    = subst (IsScanned old.compact rests old.lists.items old.unclosed.items old.total) (sym c.again-pieces.ensures ∙ c.in-Some.ensures.next) k in
+    = subst (IsScanned old.compact rests old.lists.items old.unclosed.items old.total) c.in-Some.ensures.next k in
     let opening : opens s ≡ false = sym c.opens.ensures ∙ c.if-opens.false in
     let closing : closes s ≡ true = sym c.closes.ensures ∙ c.if-closes.true in
     let total : c.in-Some-checked_add.total ≡ old.total + piece_columns old.compact s c.next.new.self
@@ -36,7 +36,7 @@ returns-else-closes-clause-scanned c = λ rests k.
     let s = piece_text c.in-Some.piece in
     let old = c.args.self.now in
     let before : IsScanned old.compact rests old.lists.items old.unclosed.items old.total (s ∷ c.next.new.self)
-    = subst (IsScanned old.compact rests old.lists.items old.unclosed.items old.total) (sym c.again-pieces.ensures ∙ c.in-Some.ensures.next) k in
+    = subst (IsScanned old.compact rests old.lists.items old.unclosed.items old.total) c.in-Some.ensures.next k in
     let opening : opens s ≡ false = sym c.opens.ensures ∙ c.if-opens.false in
     let closing : closes s ≡ false = sym c.closes.ensures ∙ c.if-closes.false in
     let total : c.in-Some-checked_add.total ≡ old.total + piece_columns old.compact s c.next.new.self
