@@ -42,8 +42,8 @@ kept_after (Some kept) s =
     Some (record { blank_lines = after_lexeme kept.blank_lines s; after_comma = is_json_sign comma s })
 
 -- no blank lines are kept, line ends are line feeds, and indents spaces
-abbrev pub IsPlain : Option Kept → Spelling → Type 0
-IsPlain kept sp = (is_some kept ≡ false) × (sp.crlf ≡ false) × (sp.tab ≡ 0)
+abbrev pub HasPlainGaps : Option Kept → Spelling → Type 0
+HasPlainGaps kept sp = (is_some kept ≡ false) × (sp.crlf ≡ false) × (sp.tab ≡ 0)
 
 -- before the first lexeme of a text
 abbrev pub kept_of : Style → List ℕ → Option Kept

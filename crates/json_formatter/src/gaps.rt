@@ -333,13 +333,13 @@ pub(crate) struct Layout<'a> {
 impl<'a> Model for Layout<'a> {
     ghost use Rattle.std.specs.Prelude.{◌≡◌, ℕ, ◌<◌, List, true};
     ghost use Rattle.json_formatter.specs.Documents.{greatest_width};
-    ghost use Rattle.json_formatter.specs.Kept.{laid_left, IsPlain};
+    ghost use Rattle.json_formatter.specs.Kept.{HasPlainGaps, laid_left};
 
     ghost Value = { List ℕ };
 
     ghost view = { λ a. laid_left a.style a.state a.kept a.spelling a.pieces };
 
-    ghost invariant = { λ a. (a.style.width < greatest_width) × (a.plain ≡ true → IsPlain a.kept a.spelling) };
+    ghost invariant = { λ a. (a.style.width < greatest_width) × (a.plain ≡ true → HasPlainGaps a.kept a.spelling) };
 }
 
 impl<'a> Layout<'a> {

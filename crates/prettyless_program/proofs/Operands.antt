@@ -4,7 +4,7 @@ use Rattle.prettyless_model.specs.declared.choice.ColumnTest.TheVariants as by_c
 use Rattle.prettyless_model.specs.declared.choice.NestingTest.TheVariants as by_nesting
 use Rattle.prettyless_program.specs.Codes.{code_of}
 use Rattle.prettyless_program.specs.Faults.{IsTextFault, Stops}
-use Rattle.prettyless_program.specs.Instructions.{Write, Count, Nest, OnColumn, OnNesting}
+use Rattle.prettyless_program.specs.Instructions.{Write, Count, WrapNest, BothOnColumn, BothOnNesting}
 use Rattle.prettyless_program.specs.Programs.{CodeItem, number, sized}
 use Rattle.prettyless_program.specs.declared.fault.Fault.{Fault}
 use Rattle.prettyless_program.specs.declared.fault.Fault.TheVariants.{Operand, Text}
@@ -53,11 +53,11 @@ StopsInNumber code = (bytes : List ℕ) (items : List CodeItem) → length bytes
 pub numbers_stop : StopsInNumber 18 × StopsInNumber 37 × StopsInNumber 52 × StopsInNumber 53 × StopsInNumber 55 × StopsInNumber 56
 numbers_stop = (
   λ bytes items short. (Count 0 [], bytes, refl, inl short),
-  λ bytes items short. (Nest (pos 0), bytes, refl, short),
-  λ bytes items short. (OnColumn (by_column.AtMost 0), bytes, refl, short),
-  λ bytes items short. (OnColumn (by_column.AtLeast 0), bytes, refl, short),
-  λ bytes items short. (OnNesting (by_nesting.AtMost 0), bytes, refl, short),
-  λ bytes items short. (OnNesting (by_nesting.AtLeast 0), bytes, refl, short),
+  λ bytes items short. (WrapNest (pos 0), bytes, refl, short),
+  λ bytes items short. (BothOnColumn (by_column.AtMost 0), bytes, refl, short),
+  λ bytes items short. (BothOnColumn (by_column.AtLeast 0), bytes, refl, short),
+  λ bytes items short. (BothOnNesting (by_nesting.AtMost 0), bytes, refl, short),
+  λ bytes items short. (BothOnNesting (by_nesting.AtLeast 0), bytes, refl, short),
 )
 
 pub ruleset stopping = (texts_stop, counted_stops, numbers_stop)

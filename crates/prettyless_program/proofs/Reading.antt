@@ -14,7 +14,7 @@ use Rattle.prettyless_program.specs.declared.instruction.Leaf.TheVariants as lea
 use Rattle.prettyless_program.specs.declared.instruction.Words.TheVariants as words
 use Rattle.prettyless_program.specs.Codes.{code_of}
 use Rattle.prettyless_program.specs.Faults.{IsCutOff, IsTextCutOff}
-use Rattle.prettyless_program.specs.Instructions.{Instruction, Put, Write, Count, Wrap, Nest, Both, OnColumn, OnNesting, Open, Close}
+use Rattle.prettyless_program.specs.Instructions.{Instruction, Put, Write, Count, Wrap, WrapNest, Both, BothOnColumn, BothOnNesting, Open, Close}
 use Rattle.prettyless_program.specs.Programs.{Fits, number, operands, sized, then_made, written}
 
 -- what is read, if anything is, and the bytes after it
@@ -104,14 +104,14 @@ read c bytes =
     else if c == 32 then Some (Wrap one.Group, bytes) else if c == 33 then Some (Wrap one.Flatten, bytes)
     else if c == 34 then Some (Wrap (one.Indented by.Align), bytes) else if c == 35 then Some (Wrap (one.Indented by.DedentToRoot), bytes)
     else if c == 36 then Some (Wrap one.LineSuffix, bytes)
-    else if c == 37 then made (λ (n : ℕ). Nest (cast_signed w64 n)) (number_at bytes)
+    else if c == 37 then made (λ (n : ℕ). WrapNest (cast_signed w64 n)) (number_at bytes)
     else if c == 48 then Some (Both two.Append, bytes) else if c == 49 then Some (Both two.BreakOrFlat, bytes)
     else if c == 50 then Some (Both two.Union, bytes) else if c == 51 then Some (Both two.PartialUnion, bytes)
-    else if c == 52 then made (λ (n : ℕ). OnColumn (by_column.AtMost n)) (number_at bytes)
-    else if c == 53 then made (λ (n : ℕ). OnColumn (by_column.AtLeast n)) (number_at bytes)
-    else if c == 54 then Some (OnColumn by_column.IsNesting, bytes)
-    else if c == 55 then made (λ (n : ℕ). OnNesting (by_nesting.AtMost n)) (number_at bytes)
-    else if c == 56 then made (λ (n : ℕ). OnNesting (by_nesting.AtLeast n)) (number_at bytes)
+    else if c == 52 then made (λ (n : ℕ). BothOnColumn (by_column.AtMost n)) (number_at bytes)
+    else if c == 53 then made (λ (n : ℕ). BothOnColumn (by_column.AtLeast n)) (number_at bytes)
+    else if c == 54 then Some (BothOnColumn by_column.IsNesting, bytes)
+    else if c == 55 then made (λ (n : ℕ). BothOnNesting (by_nesting.AtMost n)) (number_at bytes)
+    else if c == 56 then made (λ (n : ℕ). BothOnNesting (by_nesting.AtLeast n)) (number_at bytes)
     else if c == 64 then Some (Open, bytes) else if c == 65 then Some (Close, bytes) else None
 
 -- an instruction is read where it is written
@@ -122,11 +122,11 @@ read_there (Write words.Multiline s) r f = rw (text_there s r f) refl
 read_there (Count n s) r f =
     ap (λ (bytes : List ℕ). counted_after (number_at bytes)) (append_assoc (number n) (sized s) r)
     ∙ ap counted_after (number_there n (sized s ++ r) f.0) ∙ ap (made (Count n)) (text_there s r f.1)
-read_there (Nest k) r f = rw (from_le_bytes-to_le_bytes_8 (cast_unsigned w64 k) (Fits-of_z f).fits, to_z-of_z w64 k f) refl
-read_there (OnColumn (by_column.AtMost n)) r f = rw (from_le_bytes-to_le_bytes_8 n f) refl
-read_there (OnColumn (by_column.AtLeast n)) r f = rw (from_le_bytes-to_le_bytes_8 n f) refl
-read_there (OnNesting (by_nesting.AtMost n)) r f = rw (from_le_bytes-to_le_bytes_8 n f) refl
-read_there (OnNesting (by_nesting.AtLeast n)) r f = rw (from_le_bytes-to_le_bytes_8 n f) refl
+read_there (WrapNest k) r f = rw (from_le_bytes-to_le_bytes_8 (cast_unsigned w64 k) (Fits-of_z f).fits, to_z-of_z w64 k f) refl
+read_there (BothOnColumn (by_column.AtMost n)) r f = rw (from_le_bytes-to_le_bytes_8 n f) refl
+read_there (BothOnColumn (by_column.AtLeast n)) r f = rw (from_le_bytes-to_le_bytes_8 n f) refl
+read_there (BothOnNesting (by_nesting.AtMost n)) r f = rw (from_le_bytes-to_le_bytes_8 n f) refl
+read_there (BothOnNesting (by_nesting.AtLeast n)) r f = rw (from_le_bytes-to_le_bytes_8 n f) refl
 read_there (Put leaf.Nil) r f = refl
 read_there i r f = refl
 
@@ -139,11 +139,11 @@ read_short (Count n s) bytes (inl cut) = rw (number_short bytes cut) refl
 read_short (Count n s) bytes (inr (m, rest, f, e, cut)) =
     ap (λ (b : List ℕ). counted_after (number_at b)) e ∙ ap counted_after (number_there m rest f)
     ∙ ap (made (Count m)) (text_short rest cut)
-read_short (Nest k) bytes cut = rw (number_short bytes cut) refl
-read_short (OnColumn (by_column.AtMost n)) bytes cut = rw (number_short bytes cut) refl
-read_short (OnColumn (by_column.AtLeast n)) bytes cut = rw (number_short bytes cut) refl
-read_short (OnNesting (by_nesting.AtMost n)) bytes cut = rw (number_short bytes cut) refl
-read_short (OnNesting (by_nesting.AtLeast n)) bytes cut = rw (number_short bytes cut) refl
+read_short (WrapNest k) bytes cut = rw (number_short bytes cut) refl
+read_short (BothOnColumn (by_column.AtMost n)) bytes cut = rw (number_short bytes cut) refl
+read_short (BothOnColumn (by_column.AtLeast n)) bytes cut = rw (number_short bytes cut) refl
+read_short (BothOnNesting (by_nesting.AtMost n)) bytes cut = rw (number_short bytes cut) refl
+read_short (BothOnNesting (by_nesting.AtLeast n)) bytes cut = rw (number_short bytes cut) refl
 read_short i bytes cut = absurd (omega arith)
 
 -- the instruction that bytes begin with

@@ -7,7 +7,7 @@ use Rattle.prettyless_model.specs.declared.kind.Single.TheVariants as one
 use Rattle.prettyless_model.specs.declared.kind.Pair.TheVariants as two
 use Rattle.prettyless_program.specs.declared.instruction.Leaf.TheVariants as leaf
 use Rattle.prettyless_program.specs.declared.instruction.Words.TheVariants as words
-use Rattle.prettyless_program.specs.Instructions.{Instruction, Put, Write, Count, Wrap, Nest, Both, OnColumn, OnNesting, Open, Close}
+use Rattle.prettyless_program.specs.Instructions.{Instruction, Put, Write, Count, Wrap, WrapNest, Both, BothOnColumn, BothOnNesting, Open, Close}
 
 -- the code of an instruction
 abbrev pub code_of : Instruction → ℕ
@@ -28,15 +28,15 @@ code_of (Wrap one.Flatten) = 33
 code_of (Wrap (one.Indented by.Align)) = 34
 code_of (Wrap (one.Indented by.DedentToRoot)) = 35
 code_of (Wrap one.LineSuffix) = 36
-code_of (Nest k) = 37
+code_of (WrapNest k) = 37
 code_of (Both two.Append) = 48
 code_of (Both two.BreakOrFlat) = 49
 code_of (Both two.Union) = 50
 code_of (Both two.PartialUnion) = 51
-code_of (OnColumn (by_column.AtMost n)) = 52
-code_of (OnColumn (by_column.AtLeast n)) = 53
-code_of (OnColumn by_column.IsNesting) = 54
-code_of (OnNesting (by_nesting.AtMost n)) = 55
-code_of (OnNesting (by_nesting.AtLeast n)) = 56
+code_of (BothOnColumn (by_column.AtMost n)) = 52
+code_of (BothOnColumn (by_column.AtLeast n)) = 53
+code_of (BothOnColumn by_column.IsNesting) = 54
+code_of (BothOnNesting (by_nesting.AtMost n)) = 55
+code_of (BothOnNesting (by_nesting.AtLeast n)) = 56
 code_of Open = 64
 code_of Close = 65

@@ -28,11 +28,11 @@ pub data Instruction : Type 0 where
   Close : Instruction
 
 -- kinds that may have a number: names of `Wrap` and `Both`, in patterns as well
-pattern abbrev pub Nest : ℤ → Instruction
-Nest k = Wrap (one.Indented (by.Nest k))
+pattern abbrev pub WrapNest : ℤ → Instruction
+WrapNest k = Wrap (one.Indented (by.Nest k))
 
-pattern abbrev pub OnColumn : ColumnTest → Instruction
-OnColumn test = Both (two.Chosen (ask.OnColumn test))
+pattern abbrev pub BothOnColumn : ColumnTest → Instruction
+BothOnColumn test = Both (two.Chosen (ask.OnColumn test))
 
-pattern abbrev pub OnNesting : NestingTest → Instruction
-OnNesting test = Both (two.Chosen (ask.OnNesting test))
+pattern abbrev pub BothOnNesting : NestingTest → Instruction
+BothOnNesting test = Both (two.Chosen (ask.OnNesting test))

@@ -21,7 +21,7 @@ use Rattle.prettyless_program.specs.declared.instruction.Leaf.TheVariants as lea
 use Rattle.prettyless_program.specs.declared.instruction.Words.{Words}
 use Rattle.prettyless_program.specs.declared.instruction.Words.TheVariants as words
 use Rattle.prettyless_program.specs.Codes.{code_of}
-use Rattle.prettyless_program.specs.Instructions.{Instruction, Put, Write, Count, Wrap, Nest, Both, OnColumn, OnNesting, Open, Close}
+use Rattle.prettyless_program.specs.Instructions.{Instruction, Put, Write, Count, Wrap, WrapNest, Both, BothOnColumn, BothOnNesting, Open, Close}
 
 -- ---- bytes
 
@@ -37,11 +37,11 @@ sized s = to_le_bytes w32 (length s) ++ s
 abbrev pub operands : Instruction → List ℕ
 operands (Write w s) = sized s
 operands (Count n s) = number n ++ sized s
-operands (Nest k) = number (cast_unsigned w64 k)
-operands (OnColumn (by_column.AtMost n)) = number n
-operands (OnColumn (by_column.AtLeast n)) = number n
-operands (OnNesting (by_nesting.AtMost n)) = number n
-operands (OnNesting (by_nesting.AtLeast n)) = number n
+operands (WrapNest k) = number (cast_unsigned w64 k)
+operands (BothOnColumn (by_column.AtMost n)) = number n
+operands (BothOnColumn (by_column.AtLeast n)) = number n
+operands (BothOnNesting (by_nesting.AtMost n)) = number n
+operands (BothOnNesting (by_nesting.AtLeast n)) = number n
 operands i = []
 
 -- the bytes of an instruction

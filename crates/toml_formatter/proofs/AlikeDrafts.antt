@@ -1,25 +1,26 @@
 -- Documents that are laid alike in any modes, and drafts of them.
-use Rattle.std.proofs.Common.{◌≡◌, refl, sym, ◌∙◌, ap, subst, ℕ, pos, Bool, true, false, cond, ◌==◌, ◌&&◌, ◌||◌, not, List, [], ◌∷◌, ◌++◌, inl, inr}
-use Rattle.std.specs.Prelude.{◌⊎◌, Option, Some, None}
+use Rattle.std.proofs.Common.{◌≡◌, refl, sym, ◌∙◌, ap, subst, ℕ, Bool, true, false, ◌&&◌, ◌||◌, List, [], ◌∷◌, ◌++◌}
+use Rattle.std.specs.Prelude.{Option, Some, None}
 use Rattle.prettyless.specs.Built.{append}
 use Rattle.prettyless.specs.Counted as counted
-use Rattle.prettyless.specs.Tree.{Tree, Nil, HardLine}
+use Rattle.prettyless.specs.Tree.{Tree, HardLine}
 use Rattle.prettyless_model.specs.declared.mode.Mode.{Mode}
 use Rattle.toml_lexemes.specs.Bytes as byte
 use Rattle.toml_lexemes.specs.Statements.{trimmed}
 use Rattle.toml_grammar.specs.Sorts as sort
 use Rattle.toml_grammar.specs.Sorts.{Sort, sort_of}
-use Rattle.toml_formatter.specs.Documents.{Commented, Draft, End, Level, Part, RowEntry, after_comments, after_part, after_rest, broken_if, closed_end}
-use Rattle.toml_formatter.specs.Documents.{comma_kept, comments_tree, document_from, draft_with, draft_with_statement, end_after_comma, ended_in, ends_item}
-use Rattle.toml_formatter.specs.Documents.{entry_with_comma, first_levels, indent_in, is_array, is_some, level_end, level_with, level_with_comma, levels_after}
-use Rattle.toml_formatter.specs.Documents.{levels_closed, levels_with, lexeme_tree, lines_with, list_tree, new_level, new_statement, part_end, separated}
+use Rattle.toml_formatter.specs.Documents.{Commented, Draft, End, Level, Part, after_comments, after_part, after_rest, broken_if}
+use Rattle.toml_formatter.specs.Documents.{closed_end}
+use Rattle.toml_formatter.specs.Documents.{comma_kept, comments_tree, draft_with_statement, end_after_comma, ended_in, ends_item}
+use Rattle.toml_formatter.specs.Documents.{entry_with_comma, indent_in, is_array, is_some, level_end, level_with, level_with_comma}
+use Rattle.toml_formatter.specs.Documents.{levels_after}
+use Rattle.toml_formatter.specs.Documents.{levels_closed, lexeme_tree, lines_with, list_tree, new_level, new_statement, part_end, separated}
 use Rattle.toml_formatter.specs.Documents.{trailed_end, unclosed_tree, with_comment, with_ended_line, with_line_end, with_part}
 use Rattle.toml_formatter.specs.Gaps.{gap_before_close, gap_before_comma, gap_before_text}
-use Rattle.toml_formatter.specs.Kinds.{last_after_text}
 use Rattle.toml_formatter.specs.Lines.{may_hold}
 use Rattle.toml_formatter.specs.Numbers.{opened_kind}
 use Rattle.toml_formatter.specs.Spellings.{Bit}
-use Rattle.toml_formatter.specs.TreesAgain.{Again, modes_after, spelled_in}
+use Rattle.toml_formatter.proofs.Again.{Again, modes_after, spelled_in}
 use Rattle.toml_formatter.specs.declared.gaps.Gap.{Gap}
 use Rattle.toml_formatter.specs.declared.kind.Kind.{Kind}
 use Rattle.toml_formatter.specs.declared.kind.Kind.TheVariants.{Statement}
@@ -97,8 +98,8 @@ part_alike : (kind : Kind) (e f : End) (blank : Bool) (s : List ℕ) (x y : Tree
 part_alike kind e f blank s x y h k =
     by_last e f
     (λ (u : End).
-        EndsAlike (after_part kind e (Some (record { blank = blank; first = s; tree = x })))
-        (after_part kind u (Some (record { blank = blank; first = s; tree = y }))))
+    EndsAlike (after_part kind e (Some (record { blank = blank; first = s; tree = x })))
+    (after_part kind u (Some (record { blank = blank; first = s; tree = y }))))
     h.last (record { last = refl; tree = alike_separated (gap_before_text kind e.last s blank) e.tree f.tree x y h.tree k })
 
 trailed_alike : (b comma : Bool) (e f : End) → EndsAlike e f → EndsAlike (trailed_end b comma e) (trailed_end b comma f)
@@ -111,24 +112,27 @@ trailed_alike true comma e f h = record {
 }
 
 closed_at : (kind : Kind) (comma : Bool) (cs : List Commented) (e f : End) → EndsAlike e f
-    → (kept : Bool) → EndsAlike (trailed_end (is_array kind && ends_item (after_rest kind (row None kept cs) e).last) comma (after_rest kind (row None kept cs) e))
+    → (kept : Bool) → EndsAlike
+    (trailed_end (is_array kind && ends_item (after_rest kind (row None kept cs) e).last) comma (after_rest kind (row None kept cs) e))
     (trailed_end (is_array kind && ends_item (after_rest kind (row None kept cs) f).last) comma (after_rest kind (row None kept cs) f))
 closed_at kind comma cs e f h kept =
     let x = after_rest kind (row None kept cs) e in
     let y = after_rest kind (row None kept cs) f in
     let both = rest_alike kind None None kept cs e f h in
     by_last x y
-    (λ (u : End). EndsAlike (trailed_end (is_array kind && ends_item x.last) comma x) (trailed_end (is_array kind && ends_item u.last) comma u))
-    both.last (trailed_alike (is_array kind && ends_item x.last) comma x (record { tree = y.tree; last = x.last }) (record { last = refl; tree = both.tree }))
+    (λ (u : End). EndsAlike (trailed_end (is_array kind && ends_item x.last) comma x)
+    (trailed_end (is_array kind && ends_item u.last) comma u))
+    both.last (trailed_alike (is_array kind && ends_item x.last) comma x (record { tree = y.tree; last = x.last })
+    (record { last = refl; tree = both.tree }))
 
 closed_alike : (kind : Kind) (comma : Bool) (cs : List Commented) (e f : End) → EndsAlike e f
     → EndsAlike (closed_of kind comma cs e) (closed_of kind comma cs f)
 closed_alike kind comma cs e f h =
     subst
     (λ (l : Last).
-        EndsAlike (closed_of kind comma cs e)
-        (trailed_end (is_array kind && ends_item (after_rest kind (row None (comma_kept kind l comma (is_some cs)) cs) f).last) comma
-        (after_rest kind (row None (comma_kept kind l comma (is_some cs)) cs) f)))
+    EndsAlike (closed_of kind comma cs e)
+    (trailed_end (is_array kind && ends_item (after_rest kind (row None (comma_kept kind l comma (is_some cs)) cs) f).last) comma
+    (after_rest kind (row None (comma_kept kind l comma (is_some cs)) cs) f)))
     (sym h.last) (closed_at kind comma cs e f h (comma_kept kind e.last comma (is_some cs)))
 
 -- ---- levels
@@ -145,7 +149,8 @@ pub record IsTwin (lv other : Level) : Type 0 where
   pub ends : EndsAlike (part_end lv) (after_part lv.kind before part)
 
 pub twin_same : (lv : Level) → IsTwin lv lv
-twin_same lv = record { before = lv.before; part = lv.entry.part; same = refl; ends = record { last = refl; tree = alike_same (part_end lv).tree } }
+twin_same lv =
+    record { before = lv.before; part = lv.entry.part; same = refl; ends = record { last = refl; tree = alike_same (part_end lv).tree } }
 
 -- where another level is a twin, it may be taken as one
 pub by_twin : (lv other : Level) (P : Level → Type 0) (h : IsTwin lv other) → P (twin lv h.before h.part) → P other
@@ -166,7 +171,8 @@ twin_part lv other s x y h k =
       same = refl;
       ends =
           part_alike lv.kind (level_end lv) (level_end t) lv.blank s x y
-          (rest_alike lv.kind lv.entry.part h.part lv.entry.comma lv.entry.comments (part_end lv) (after_part lv.kind h.before h.part) h.ends) k;
+          (rest_alike lv.kind lv.entry.part h.part lv.entry.comma lv.entry.comments (part_end lv)
+          (after_part lv.kind h.before h.part) h.ends) k;
     })
 
 entry_comma : (b : Bool) (lv : Level) (before : End) (part : Option Part) → EndsAlike (part_end lv) (after_part lv.kind before part)
@@ -205,7 +211,7 @@ list_alike style lv other s e f h =
     let both = closed_alike lv.kind lv.entry.comma lv.entry.comments (part_end lv) (after_part lv.kind h.before h.part) h.ends in
     subst
     (λ (l : Last).
-        Alike (list_tree style lv s) (bracketed (indent_in style lv.kind) (gap_before_close lv.kind l) lv.opening y.tree s))
+    Alike (list_tree style lv s) (bracketed (indent_in style lv.kind) (gap_before_close lv.kind l) lv.opening y.tree s))
     (sym both.last)
     (alike_bracketed (indent_in style lv.kind) (gap_before_close lv.kind x.last) lv.opening s x.tree y.tree e f both.tree))
 
@@ -247,19 +253,19 @@ module _ (style : Style) (s : List ℕ) (rest more : List (List ℕ)) where
       → AreTwins (levels_closed style lv lvs s) (levels_closed style other others s)
   twins_closed lv other [] [] alone are h t = (
     twin_part new_statement new_statement s (append (closed_end lv).tree (counted.text s)) (append (closed_end other).tree (counted.text s))
-    (twin_same new_statement)
-    (alike_append (closed_end lv).tree (closed_end other).tree (counted.text s) (counted.text s)
-    (by_twin lv other (λ (o : Level). Alike (closed_end lv).tree (closed_end o).tree) h
-    (closed_alike lv.kind lv.entry.comma lv.entry.comments (part_end lv) (after_part lv.kind h.before h.part) h.ends).tree)
-    (alike_same (counted.text s))),
+        (twin_same new_statement)
+        (alike_append (closed_end lv).tree (closed_end other).tree (counted.text s) (counted.text s)
+        (by_twin lv other (λ (o : Level). Alike (closed_end lv).tree (closed_end o).tree) h
+        (closed_alike lv.kind lv.entry.comma lv.entry.comments (part_end lv) (after_part lv.kind h.before h.part) h.ends).tree)
+        (alike_same (counted.text s))),
     tt,
   )
   twins_closed lv other [] (o ∷ os) alone are h t = absurd t
   twins_closed lv other (outer ∷ lvs) [] alone are h t = absurd t
   twins_closed lv other (outer ∷ lvs) (o ∷ os) alone are h t = (
     subst (λ (u : List ℕ). IsTwin (with_part outer lv.opening (list_tree style lv s)) (with_part o u (list_tree style other s)))
-    (sym (same_opening lv other h))
-    (twin_part outer o lv.opening (list_tree style lv s) (list_tree style other s) t.0 (list_alike style lv other s are.0 alone h)),
+        (sym (same_opening lv other h))
+        (twin_part outer o lv.opening (list_tree style lv s) (list_tree style other s) t.0 (list_alike style lv other s are.0 alone h)),
     t.1,
   )
 
@@ -295,17 +301,20 @@ module _ (style : Style) (s : List ℕ) (rest more : List (List ℕ)) where
   twins_with sort.close_table lv other lvs others e alone are h t = twins_closed lv other lvs others alone are h t
   twins_with sort.comma lv other lvs others e alone are h t = (twin_comma lv other h, t)
   twins_with sort.comment lv other lvs others e alone are h t = (twin_comment lv other s h, t)
-  twins_with k lv other lvs others e alone are h t = (twin_part lv other s (lexeme_tree s) (lexeme_tree s) h (alike_same (lexeme_tree s)), t)
+  twins_with k lv other lvs others e alone are h t =
+      (twin_part lv other s (lexeme_tree s) (lexeme_tree s) h (alike_same (lexeme_tree s)), t)
 
   statement_same : (tree : Tree) → AreTwins (with_part new_statement s tree ∷ []) (with_part new_statement s tree ∷ [])
   statement_same tree = (twin_same (with_part new_statement s tree), tt)
 
   twins_first : (k : Sort) → OpensSame k rest more [] → AreTwins (levels_after style k [] s rest) (levels_after style k [] s more)
   twins_first sort.open_array e =
-      twins_opened (opened_kind Statement true sort.open_array rest) (opened_kind Statement true sort.open_array more) new_statement new_statement
+      twins_opened (opened_kind Statement true sort.open_array rest)
+      (opened_kind Statement true sort.open_array more) new_statement new_statement
       [] [] e (twin_same new_statement) tt
   twins_first sort.open_table e =
-      twins_opened (opened_kind Statement true sort.open_table rest) (opened_kind Statement true sort.open_table more) new_statement new_statement
+      twins_opened (opened_kind Statement true sort.open_table rest)
+      (opened_kind Statement true sort.open_table more) new_statement new_statement
       [] [] refl (twin_same new_statement) tt
   twins_first sort.comment e = statement_same (counted.text (trimmed s))
   twins_first sort.comma e = statement_same (counted.text s)
@@ -338,7 +347,8 @@ lines_alike true x y u v h k =
 pub statement_alike : (d e : Draft) (x y : Tree) → Alike d.done e.done → e.blank ≡ d.blank → Alike x y
     → DraftsAlike (draft_with_statement d x) (draft_with_statement e y)
 statement_alike d e x y h b k = record {
-  done = subst (λ (c : Bool). Alike (lines_with d.blank d.done x) (lines_with c e.done y)) (sym b) (lines_alike d.blank d.done e.done x y h k);
+  done = subst (λ (c : Bool). Alike (lines_with d.blank d.done x) (lines_with c e.done y)) (sym b)
+      (lines_alike d.blank d.done e.done x y h k);
   some = refl;
   blank = refl;
   levels = tt;

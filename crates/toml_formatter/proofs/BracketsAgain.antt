@@ -10,8 +10,8 @@ use Rattle.prettyless.specs.Counted as counted
 use Rattle.prettyless.specs.DocTree.{is_nil}
 use Rattle.toml_formatter.specs.Documents.{lines_with, separated}
 use Rattle.toml_formatter.specs.Spellings.{Bit, end_of_line, word_bits}
-use Rattle.toml_formatter.specs.TreesAgain.{Again, first_mode, later_modes}
-use Rattle.toml_formatter.specs.TreesAgainLaws.{BracketedDocumentsStay, FlatBracketsStay, LinesStay, after_gap, bracketed, bracketed_bits}
+use Rattle.toml_formatter.proofs.Again.{Again, first_mode, later_modes}
+use Rattle.toml_formatter.proofs.AgainLaws.{BracketedDocumentsStay, FlatBracketsStay, LinesStay, after_gap, bracketed, bracketed_bits}
 use Rattle.toml_formatter.specs.declared.gaps.Gap.{Gap}
 use Rattle.toml_formatter.specs.declared.gaps.Gap.TheVariants as gap
 use Rattle.toml_formatter.proofs.NodesAgain.{again_append, again_flat_group, again_group, again_nest, again_same, append_is, joined}

@@ -18,9 +18,9 @@ use Rattle.prettyless.specs.DocTree.{is_nil}
 use Rattle.toml_formatter.specs.Documents.{broken_if, separated}
 use Rattle.prettyless.specs.Lines.{line, line_}
 use Rattle.toml_formatter.specs.Spellings.{Bit, text_of}
-use Rattle.toml_formatter.specs.TreesAgain.{Again, IsFlatAgain, IsLaidLike, LooksSame, group_modes, modes_after, spelled_in}
-use Rattle.toml_formatter.specs.TreesAgainLaws.{BrokenListsAreTrailed, FlatBlankLinesGo, FlatListsAreNot, line_bits, optional_comma}
-use Rattle.toml_formatter.specs.TreesAgainLaws.{with_optional_comma}
+use Rattle.toml_formatter.proofs.Again.{Again, IsFlatAgain, IsLaidLike, LooksSame, group_modes, modes_after, spelled_in}
+use Rattle.toml_formatter.proofs.AgainLaws.{BrokenListsAreTrailed, FlatBlankLinesGo, FlatListsAreNot, line_bits, optional_comma}
+use Rattle.toml_formatter.proofs.AgainLaws.{with_optional_comma}
 use Rattle.toml_formatter.specs.declared.gaps.Gap.TheVariants as gap
 use Rattle.toml_formatter.proofs.LaidLike.{first_modes, like_same, like_then}
 use Rattle.toml_formatter.proofs.NodesAgain.{again_append, again_same, append_is, joined, looks_both, nil_is, nil_left, nil_spelled}

@@ -40,8 +40,8 @@ use Rattle.toml_formatter.proofs.Readings.{Context, Fits, FitsEnd, In, IsAfter, 
 use Rattle.toml_formatter.proofs.Readings.{header, headers, in_fits, reading, sign_ends, stands, start, statement, step_at, table, touch_at}
 use Rattle.toml_formatter.proofs.Readings.{turn_at}
 use Rattle.toml_formatter.proofs.Readings.{value_is, where_ok}
-use Rattle.toml_formatter.proofs.Rows.{CommaTo, Covers, HasComma, HasComments, IsArrayNext, IsAt, Reaches, array_line, comma_ready}
-use Rattle.toml_formatter.proofs.Rows.{covers_both, ended, fits_comma, rest_reaches, value_covers}
+use Rattle.toml_formatter.proofs.Rows.{CommaTo, Covers, HasComma, HasComments, IsArrayNext, IsAt, Reaches, array_ended, array_line}
+use Rattle.toml_formatter.proofs.Rows.{array_next_covers, comma_ready, covers_both, ended, fits_comma, rest_reaches, value_covers}
 use Rattle.toml_formatter.proofs.Written.{BeginsAs, IsGapAt, Lex, MayEnd, MayTouch, Place, Touch, after, after_space, at_line, begins_as}
 use Rattle.toml_formatter.proofs.Written.{comment, lex_of, place, same_reading, sign, string, word}
 
@@ -122,16 +122,6 @@ array_value next.After h = tt
 array_value next.AfterDate h = tt
 array_value n h = absurd h
 
-array_covered : (m n : Next) → Covers m n → IsArrayNext n → IsArrayNext m
-array_covered m n (inl e) h = subst IsArrayNext (sym e) h
-array_covered m n (inr (d, a)) h = subst IsArrayNext (sym d) tt
-
-array_end_next : (m : Next) → IsArrayNext m → IsArrayNext (ended m)
-array_end_next next.Member h = tt
-array_end_next next.After h = tt
-array_end_next next.AfterDate h = tt
-array_end_next m h = absurd h
-
 item_ends : (l : Last) (n : Next) → FitsEnd array l n → ends_item l ≡ true → IsOnLine l × IsAfter n
 item_ends last.Close n f e = (tt, value_is last.Close n f)
 item_ends last.Word n f e = (tt, value_is last.Word n f)
@@ -166,7 +156,7 @@ module _ (bs : List Bracket) (w : Within array bs) (s : List ℕ) (whole : IsWho
   )
 
   array_lined : (u : Touch) (m : Next) → MayEnd u → IsArrayNext m → Lined (place u (reading bs m)) (Ready s (closed bs))
-  array_lined u m may h = (reading bs (ended m), may, array_line bs m w h, array_ready at_line (ended m) tt (array_end_next m h))
+  array_lined u m may h = (reading bs (ended m), may, array_line bs m w h, array_ready at_line (ended m) tt (array_ended m h))
 
   array_edge : (u : Touch) (m : Next) → MayEnd u → NoComment u → IsArrayNext m
       → Lined (place u (reading bs m)) (Ready s (closed bs)) × Ready s (closed bs) (place u (reading bs m))
@@ -213,7 +203,7 @@ module _ (bs : List Bracket) (w : Within array bs) (s : List ℕ) (whole : IsWho
     plain_closes : (e : End) (n : Next) → IsArrayNext n → Reaches array a e bs n → Leads a e.tree (Closes e.last)
     plain_closes e n h r =
         leads_more a e.tree (IsAt (touch_at array e.last) bs n) (Closes e.last) r.leads
-        (λ b (m, covers, at). subst (Closes e.last) (sym at) (array_gap kind of e.last n m r.fits (array_covered m n covers h)))
+        (λ b (m, covers, at). subst (Closes e.last) (sym at) (array_gap kind of e.last n m r.fits (array_next_covers m n covers h)))
 
     -- with a comma where lines are broken
     trailing : (comma : Bool) (e : End) (n : Next) → IsArrayNext n → IsAfter n → IsOnLine e.last → Reaches array a e bs n
@@ -228,7 +218,7 @@ module _ (bs : List Bracket) (w : Within array bs) (s : List ℕ) (whole : IsWho
         (subst (Ready (44 ∷ []) (reading bs next.Member)) (sym at)
         (comma_ready array e.last bs m next.Member on (value_covers m n covers value) (comma_to_member bs w))))
         (comma_gap kind of e.last on))
-        (leads_nil b (Closes e.last) (subst (Closes e.last) (sym at) (array_gap kind of e.last n m r.fits (array_covered m n covers h))))))
+        (leads_nil b (Closes e.last) (subst (Closes e.last) (sym at) (array_gap kind of e.last n m r.fits (array_next_covers m n covers h))))))
 
     of_array : is_array kind ≡ true
     of_array = by kind of
@@ -309,12 +299,6 @@ IsPlain c = ⊥
 cond_same : {A : Type 0} (b : Bool) (x : A) → cond b x x ≡ x
 cond_same true x = refl
 cond_same false x = refl
-
-closed_of : Kind → End → Bool → List Commented → End
-closed_of kind e comma rs =
-    let kept = comma_kept kind e.last comma (is_some rs) in
-    let f = after_comments (is_some rs) (comments_tree kind e.last rs) (end_after_comma kept e) in
-    trailed_end (is_array kind && ends_item f.last) comma f
 
 closed_plain : (c : Context) (kind : Kind) → IsPlain c → IsOf c kind → (e : End) (comma : Bool) (rs : List Commented) → comma ≡ false
     → rs ≡ []

@@ -1,22 +1,13 @@
--- Gaps are read again as they are.
-use Rattle.std.proofs.Common.{◌≡◌, refl, sym, ◌∙◌, ap, Bool, true, false, cond, ◌==◌, List, ◌++◌, append-nil}
-use Rattle.prettyless.specs.Built.{append, append_to}
-use Rattle.prettyless.specs.Lines.{line, line_}
-use Rattle.prettyless.specs.Tree.{Tree, Nil}
-use Rattle.prettyless_laws.specs.Reading.{Atom, reading}
-use Rattle.prettyless_model.specs.declared.mode.Mode.TheVariants.{Flat}
-use Rattle.toml_lexemes.specs.Bytes.{dot, head}
-use Rattle.toml_grammar.specs.Sorts.{Sort, sort_of}
-use Rattle.toml_formatter.specs.Gaps.{gap_after_comma, gap_before_first_comment, gap_before_part, line_break}
-use Rattle.toml_formatter.specs.GapsAgain.{CommentGapsAreReadAgain, FlatBlanksAreUnseen, TextGapsAreReadAgain, breaks_before, leaves_blank}
+-- Gaps before comments are read again as they are.
+use Rattle.std.proofs.Common.{◌≡◌, refl, Bool, true, false, cond}
+use Rattle.toml_formatter.specs.Gaps.{gap_before_first_comment, line_break}
+use Rattle.toml_formatter.proofs.GapFlags.{CommentGapsAreReadAgain, breaks_before, leaves_blank}
 use Rattle.toml_formatter.specs.declared.gaps.Gap.{Gap}
 use Rattle.toml_formatter.specs.declared.gaps.Gap.TheVariants.{Beside, Break}
 use Rattle.toml_formatter.specs.declared.kind.Kind.{Kind}
 use Rattle.toml_formatter.specs.declared.kind.Kind.TheVariants.{Statement, Header, Table, Array, Numbers}
 use Rattle.toml_formatter.specs.declared.kind.Last.{Last}
 use Rattle.toml_formatter.specs.declared.kind.Last.TheVariants.{Start, Close, Equals, Word, Dot, String, Comma, Comment}
-
--- ---- before comments
 
 break_again : (blank : Bool) → line_break (leaves_blank (line_break blank)) ≡ line_break blank
 break_again true = refl
@@ -83,49 +74,3 @@ first_again Numbers Comment broken blank = break_again blank
 pub comment_again : CommentGapsAreReadAgain
 comment_again kind l true broken blank = break_again blank
 comment_again kind l false broken blank = first_again kind l broken blank
-
--- ---- before other lexemes
-
-comma_again : (kind : Kind) (blank : Bool) → gap_after_comma kind (leaves_blank (gap_after_comma kind blank)) ≡ gap_after_comma kind blank
-comma_again Statement blank = refl
-comma_again Header blank = refl
-comma_again Table blank = refl
-comma_again Array true = refl
-comma_again Array false = refl
-comma_again Numbers true = refl
-comma_again Numbers false = refl
-
-part_again : (kind : Kind) (l : Last) (s : Sort) (dotted blank : Bool)
-    → gap_before_part kind l s dotted (leaves_blank (gap_before_part kind l s dotted blank)) ≡ gap_before_part kind l s dotted blank
-part_again kind Start s dotted blank = refl
-part_again kind Close s dotted blank = refl
-part_again kind Equals s dotted blank = refl
-part_again kind Word s dotted blank = refl
-part_again kind Dot s dotted blank = refl
-part_again kind String s dotted blank = refl
-part_again kind Comma s dotted blank = comma_again kind blank
-part_again kind Comment s dotted blank = break_again blank
-
-pub text_again : TextGapsAreReadAgain
-text_again kind l s blank = part_again kind l (sort_of s) (head s == dot) blank
-
--- ---- flat
-
-reads_append_to : (x y : Tree) → reading (append_to x y) Flat ≡ reading x Flat ++ reading y Flat
-reads_append_to x Nil = sym (append-nil (reading x Flat))
-reads_append_to x y = refl
-
-reads_append : (x y : Tree) → reading (append x y) Flat ≡ reading x Flat ++ reading y Flat
-reads_append Nil y = refl
-reads_append x y = reads_append_to x y
-
--- in Flat a line that is nothing there is not read
-no_line : (x : Tree) → reading (append x line_) Flat ≡ reading x Flat
-no_line x = reads_append x line_ ∙ append-nil (reading x Flat)
-
-pub flat_blanks : FlatBlanksAreUnseen
-flat_blanks x y =
-    reads_append (append (append x line_) line) y
-    ∙ ap (λ (l : List Atom). l ++ reading y Flat) (reads_append (append x line_) line
-    ∙ ap (λ (l : List Atom). l ++ reading line Flat) (no_line x) ∙ sym (reads_append x line))
-    ∙ sym (reads_append (append x line) y)

@@ -25,8 +25,8 @@ use Rattle.prettyless.specs.Counted as counted
 use Rattle.prettyless.specs.DocTree.{is_nil}
 use Rattle.toml_formatter.specs.Documents.{broken_if, is_line_feed_byte, lexeme_tree, separated}
 use Rattle.toml_formatter.specs.Spellings.{Bit, word_bits}
-use Rattle.toml_formatter.specs.TreesAgain.{Again, IsFlatAgain, IsLaidLike, LooksSame}
-use Rattle.toml_formatter.specs.TreesAgainLaws.{WordsAreJoined}
+use Rattle.toml_formatter.proofs.Again.{Again, IsFlatAgain, IsLaidLike, LooksSame}
+use Rattle.toml_formatter.proofs.AgainLaws.{WordsAreJoined}
 use Rattle.toml_formatter.specs.declared.gaps.Gap.{Gap}
 use Rattle.toml_formatter.specs.declared.gaps.Gap.TheVariants as gap
 use Rattle.toml_formatter.proofs.NodesAgain.{again_append, append_is, joined}

@@ -1,22 +1,23 @@
 -- Words side by side in a layout are one lexeme: the document of such lexemes is laid like that of the words.
-use Rattle.std.proofs.Common.{◌≡◌, refl, sym, ◌∙◌, ap, subst, arith, ℕ, suc, ◌+◌, ◌-◌, ◌<◌, Bool, true, false, cond, ◌==◌, ◌&&◌, ◌||◌, not, List, [], ◌∷◌, ◌++◌}
-use Rattle.std.proofs.Common.{inl, inr, length, get_or, Result, Ok, Err, length-append}
+use Rattle.std.proofs.Common.{◌≡◌, refl, sym, ◌∙◌, ap, subst, arith, ℕ, suc, ◌-◌, Bool, true, false, cond, ◌==◌, ◌&&◌, ◌||◌, not, List}
+use Rattle.std.proofs.Common.{[], ◌∷◌, ◌++◌}
+use Rattle.std.proofs.Common.{inl, inr, length, get_or, Ok, length-append}
 use Rattle.std.proofs.Math.Seq.{get_or-append_seam}
 use Rattle.std.proofs.lemmas.Bool.{true≢false}
 use Rattle.std.proofs.lemmas.Bool.Decides.{nat_tests}
 use Rattle.std.proofs.lemmas.Option.{slice_get_read}
 use Rattle.std.specs.List.{list_all, list_any}
-use Rattle.std.specs.Prelude.{◌⊎◌, Option, Some, None, nat_lt, slice_get}
-use Rattle.prettyless.specs.Tree.{Tree, Nil}
+use Rattle.std.specs.Prelude.{◌⊎◌, Option, Some, None, nat_lt}
 use Rattle.prettyless_model.specs.Metrics.{is_ascii}
 use Rattle.toml_lexemes.specs.Bytes as byte
 use Rattle.toml_lexemes.specs.Bytes.{dot, ends_with_dot, ends_word, head}
 use Rattle.toml_lexemes.specs.Shown.{IsWholeLexeme}
 use Rattle.toml_lexemes.specs.SpacedLexemes.{after_toml_gap}
 use Rattle.toml_grammar.specs.Dates.{is_date, is_time}
-use Rattle.toml_grammar.specs.Grammar.{Reading, comma_turn, expected, innermost, is_clear, is_line_end, is_one_space, key_turn, lexeme_step, line_end_turn}
-use Rattle.toml_grammar.specs.Grammar.{open_array_turn, sort_turn, turned, value_turn, where_so, word_turn}
-use Rattle.toml_grammar.proofs.KeyWords.{is_key_byte, key_word_bytes, key_word_end, key_word_start}
+use Rattle.toml_grammar.specs.Grammar.{Reading, comma_turn, expected, innermost, is_clear, is_line_end, is_one_space, key_turn}
+use Rattle.toml_grammar.specs.Grammar.{lexeme_step, line_end_turn}
+use Rattle.toml_grammar.specs.Grammar.{sort_turn, turned, where_so, word_turn}
+use Rattle.toml_grammar.proofs.KeyWords.{is_key_byte, key_word_bytes, key_word_end, key_word_start, same_end}
 use Rattle.toml_grammar.specs.Keys.{key_word}
 use Rattle.toml_grammar.specs.Sorts as sort
 use Rattle.toml_grammar.specs.Sorts.{Sort, sort_of}
@@ -32,13 +33,14 @@ use Rattle.toml_grammar.specs.declared.next.Next.TheVariants as next
 use Rattle.toml_grammar.specs.declared.turn.LexemeTurn.{LexemeTurn}
 use Rattle.toml_grammar.specs.declared.turn.LexemeTurn.TheVariants as turn
 use Rattle.toml_formatter.specs.Numbers.{is_among_numbers, only_number_words}
-use Rattle.toml_formatter.specs.ReadAgain.{is_word, joined_from, lexeme_then, lexemes_then, with_word, word_then}
+use Rattle.toml_formatter.proofs.ReadTexts.{is_word, joined_from, lexeme_then, lexemes_then, with_word, word_then}
 use Rattle.toml_formatter.specs.Spellings.{Bit, end_of_line, text_of}
-use Rattle.toml_formatter.proofs.Written.{IsKey, IsSpace, Place, Runs, Stands, after, after_space, at_line, lex_of, letter_sort, place, same_reading, taken}
+use Rattle.toml_formatter.proofs.Written.{IsKey, Place, Runs, Stands, after, after_space, at_line, lex_of, letter_sort, place}
+use Rattle.toml_formatter.proofs.Written.{same_reading, taken}
 use Rattle.toml_formatter.specs.Documents.{is_line_feed_byte}
 use Rattle.toml_formatter.proofs.TreesAgain.{IsPlainWord, plain_words}
 use Rattle.toml_formatter.proofs.LexemeFacts.{alone_is}
-use Rattle.toml_formatter.proofs.Written.{BeginsAs, IsGapAt, Lex, MayTouch, Touch, EndsLine, begins_as, comment, sign, string, word}
+use Rattle.toml_formatter.proofs.Written.{BeginsAs, IsGapAt, Lex, MayTouch, Touch, begins_as, sign, word}
 
 -- ---- brackets
 
@@ -56,9 +58,11 @@ pub step_turn : (r c : Reading) (g s : List ℕ) (k : Sort) → sort_of s ≡ k 
     → turned r.open_brackets (sort_turn k r.next (innermost r.open_brackets) g s) ≡ Ok c
 step_turn r c g s k e h =
     clear (is_clear g (is_line_end k)) (sort_turn k r.next (innermost r.open_brackets) g s)
-    (sym (ap (λ (j : Sort). turned r.open_brackets (cond (is_clear g (is_line_end j)) (sort_turn j r.next (innermost r.open_brackets) g s) (turn.Stops want.LineFeed))) e) ∙ h)
+    (sym (ap (λ (j : Sort). turned r.open_brackets
+    (cond (is_clear g (is_line_end j)) (sort_turn j r.next (innermost r.open_brackets) g s) (turn.Stops want.LineFeed))) e) ∙ h)
   where
-    clear : (b : Bool) (t : LexemeTurn) → turned r.open_brackets (cond b t (turn.Stops want.LineFeed)) ≡ Ok c → turned r.open_brackets t ≡ Ok c
+    clear : (b : Bool) (t : LexemeTurn) → turned r.open_brackets (cond b t (turn.Stops want.LineFeed)) ≡ Ok c
+        → turned r.open_brackets t ≡ Ok c
     clear true t p = p
     clear false t p = absurd (cc)
 
@@ -73,7 +77,8 @@ record GoesOnIn (bs : List Bracket) (c : Reading) : Type 0 where
   array : IsInArray c.next
   brackets : c.open_brackets ≡ bs
 
-goes_to : (bs : List Bracket) (n : Next) (c : Reading) → IsInArray n → taken (record { open_brackets = bs; next = n }) ≡ Ok c → GoesOnIn bs c
+goes_to : (bs : List Bracket) (n : Next) (c : Reading) → IsInArray n → taken (record { open_brackets = bs; next = n }) ≡ Ok c
+    → GoesOnIn bs c
 goes_to bs n c h e =
     subst (GoesOnIn bs) (same_reading e) (record { array = h; brackets = refl })
 
@@ -99,7 +104,8 @@ comma_in next.AfterDate bs c h t = goes_to bs next.Member c tt t
 comma_in next.Member bs c h t = absurd (cc)
 comma_in n bs c h t = absurd h
 
-line_in : (n : Next) (bs : List Bracket) (c : Reading) → IsInArray n → turned bs (line_end_turn n (Some bracket.Array)) ≡ Ok c → GoesOnIn bs c
+line_in : (n : Next) (bs : List Bracket) (c : Reading) → IsInArray n → turned bs (line_end_turn n (Some bracket.Array)) ≡ Ok c
+    → GoesOnIn bs c
 line_in next.After bs c h t = goes_to bs next.After c tt t
 line_in next.AfterDate bs c h t = goes_to bs next.After c tt t
 line_in next.Member bs c h t = goes_to bs next.Member c tt t
@@ -136,7 +142,8 @@ word_sort_is [] whole h = absurd (cc)
 word_sort_is (x ∷ s) whole h = letter_sort x (word_letter (x ∷ s) h)
 
 -- in an array no word is beside another
-no_word_before : (p : Option (List ℕ)) (t : Touch) (n : Next) (s : List ℕ) → IsInArray n → IsAfterWord p t → MayTouch t n s → is_word s ≡ true
+no_word_before : (p : Option (List ℕ)) (t : Touch) (n : Next) (s : List ℕ) → IsInArray n → IsAfterWord p t → MayTouch t n s
+    → is_word s ≡ true
     → p ≡ None
 no_word_before None t n s h a m w = refl
 no_word_before (Some u) t n s h a m w = absurd (touched (subst (λ (k : Touch). MayTouch k n s) a m))
@@ -183,9 +190,9 @@ seen_same sort.string s x y other f g = refl
 seen_same sort.text_end s x y other f g = refl
 
 -- after a sign no word is
-pub after_sign : (l : Lex) (s : List ℕ) (c : Place) (k : Sort) → c.touch ≡ after (lex_of (sort_of s)) → sort_of s ≡ k → lex_of k ≡ sign
+after_sign : (s : List ℕ) (c : Place) (k : Sort) → c.touch ≡ after (lex_of (sort_of s)) → sort_of s ≡ k → lex_of k ≡ sign
     → c.touch ≡ after word → ⊥
-after_sign l s c k t e sg w =
+after_sign s c k t e sg w =
     let clash : after sign ≡ after word = ap after (sym sg) ∙ ap (λ (j : Sort). after (lex_of j)) (sym e) ∙ sym t ∙ w in cc
 
 -- in an array, lexemes with words joined are numbers alone where those without are
@@ -214,7 +221,7 @@ module _ (bits : List Bit) (more : NumbersJoined bits) (a b c : Place) (s : List
       on_in None
       (comma_in a.reading.next a.reading.open_brackets c.reading goes
       (subst (λ (q : Option Bracket). turned a.reading.open_brackets (comma_turn a.reading.next q) ≡ Ok c.reading) in_array t.1))
-      (after_sign sign s c sort.comma st.touch e refl)
+      (after_sign s c sort.comma st.touch e refl)
 
   line_numbers : sort_of s ≡ sort.line_end → only_number_words (lexemes_then bits []) ≡ only_number_words (joined_from None bits)
   line_numbers e =
@@ -222,7 +229,7 @@ module _ (bits : List Bit) (more : NumbersJoined bits) (a b c : Place) (s : List
       on_in None
       (line_in a.reading.next a.reading.open_brackets c.reading goes
       (subst (λ (q : Option Bracket). turned a.reading.open_brackets (line_end_turn a.reading.next q) ≡ Ok c.reading) in_array t.1))
-      (after_sign sign s c sort.line_end st.touch e refl)
+      (after_sign s c sort.line_end st.touch e refl)
 
   other_numbers : is_word s ≡ false
       → only_number_words (lexeme_then s (lexemes_then bits [])) ≡ only_number_words (lexeme_then s (joined_from None bits))
@@ -239,7 +246,7 @@ module _ (bits : List Bit) (more : NumbersJoined bits) (a b c : Place) (s : List
       let none = no_word_before p a.touch a.reading.next s goes t st.touches w in
       subst
       (λ (q : Option (List ℕ)).
-          only_number_words (word_then q (lexeme_then s (lexemes_then bits []))) ≡ only_number_words (joined_from (Some (with_word q s)) bits))
+      only_number_words (word_then q (lexeme_then s (lexemes_then bits []))) ≡ only_number_words (joined_from (Some (with_word q s)) bits))
       (sym none) (word_numbers w)
   text_numbers p false w t =
       number_after p (lexeme_then s (lexemes_then bits [])) (lexeme_then s (joined_from None bits)) (other_numbers w)
@@ -260,8 +267,8 @@ numbers_joined (end_of_line ∷ bits) a b p (r, may, ends, runs) i h t =
 numbers_joined (text_of s ∷ bits) a b p (c, inl space, runs) i h t =
     subst
     (λ (u : List ℕ).
-        only_number_words (word_then p (lexeme_then u (lexemes_then bits [])))
-        ≡ only_number_words (cond (is_word u) (joined_from (Some (with_word p u)) bits) (word_then p (lexeme_then u (joined_from None bits)))))
+    only_number_words (word_then p (lexeme_then u (lexemes_then bits [])))
+    ≡ only_number_words (cond (is_word u) (joined_from (Some (with_word p u)) bits) (word_then p (lexeme_then u (joined_from None bits)))))
     (sym space.space)
     (number_after p (lexemes_then bits []) (joined_from None bits)
     (numbers_joined bits (place after_space a.reading) b None (subst (λ (q : Place). Runs q bits b) space.place runs) i h space_none))
@@ -350,12 +357,6 @@ plain_after (next.Key o due) bs b g x s c k t = go (key_word due (x ∷ s)) refl
     go None is u = absurd (cc)
     go (Some later) is u = key_word_plain due later x s is
 plain_after n bs b g x s c k t = absurd k
-
-same_end : (x y : ℕ) (ys : List ℕ) → ends_with_dot (x ∷ (y ∷ ys)) ≡ ends_with_dot (y ∷ ys)
-same_end x y ys =
-    let longer : suc (suc (length ys)) - 1 ≡ suc (length ys) = omega arith in
-    let shorter : suc (length ys) - 1 ≡ length ys = omega arith in
-    ap (λ (k : ℕ). get_or (x ∷ (y ∷ ys)) k 32 == 46) longer ∙ sym (ap (λ (k : ℕ). get_or (y ∷ ys) k 32 == 46) shorter)
 
 pub ends_both : (w : List ℕ) (x : ℕ) (s : List ℕ) → ends_with_dot (w ++ (x ∷ s)) ≡ ends_with_dot (x ∷ s)
 ends_both [] x s = refl

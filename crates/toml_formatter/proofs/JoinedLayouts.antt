@@ -1,53 +1,52 @@
 -- The document of the lexemes of a layout is laid like that of its texts, where words side by side are apart.
-use Rattle.std.proofs.Common.{◌≡◌, refl, sym, ◌∙◌, ap, subst, arith, ℕ, suc, Bool, true, false, cond, ◌==◌, ◌&&◌, ◌||◌, not, List, [], ◌∷◌, ◌++◌}
-use Rattle.std.proofs.Common.{inl, inr, length, Result, Ok, Err}
+use Rattle.std.proofs.Common.{◌≡◌, refl, sym, ◌∙◌, ap, subst, ℕ, Bool, true, false, cond, ◌==◌, ◌||◌, List, [], ◌∷◌, ◌++◌}
+use Rattle.std.proofs.Common.{inl, inr, Result, Ok}
 use Rattle.std.proofs.lemmas.Bool.{true≢false}
 use Rattle.std.specs.Prelude.{◌⊎◌, Option, Some, None}
 use Rattle.prettyless.specs.Built.{append}
 use Rattle.prettyless.specs.Tree.{Tree, Nil}
-use Rattle.toml_lexemes.specs.Bytes as byte
 use Rattle.toml_lexemes.specs.Bytes.{dot, ends_with_dot, ends_word, head}
-use Rattle.toml_lexemes.specs.Lexemes.{between, cut_toml}
 use Rattle.toml_lexemes.specs.Shown.{IsWholeLexeme}
 use Rattle.toml_lexemes.proofs.LineEnds.{cut-nil, cut_line_feed}
 use Rattle.toml_lexemes.proofs.WholeLexemes.{no_lexeme}
-use Rattle.toml_grammar.specs.Grammar.{Reading, first_reading, innermost, is_empty_gap, lexeme_step, line_end_turn, open_array_turn, sort_turn, turned, where_so}
+use Rattle.toml_grammar.specs.Grammar.{Reading, first_reading, innermost, open_array_turn, sort_turn, turned}
 use Rattle.toml_grammar.specs.Sorts as sort
 use Rattle.toml_grammar.specs.Sorts.{Sort, sort_of}
 use Rattle.toml_grammar.specs.declared.expected.Expected.{Expected}
 use Rattle.toml_grammar.specs.declared.next.Bracket.{Bracket}
 use Rattle.toml_grammar.specs.declared.next.Bracket.TheVariants as bracket
-use Rattle.toml_grammar.specs.declared.next.Owner.TheVariants as owner
 use Rattle.toml_grammar.specs.declared.next.Next.{Next}
 use Rattle.toml_grammar.specs.declared.next.Next.TheVariants as next
 use Rattle.toml_grammar.specs.declared.turn.LexemeTurn.TheVariants as turn
-use Rattle.toml_formatter.specs.Documents.{Draft, End, Level, document_from, draft_with, entry_with_comma, level_end, level_with_comma, levels_after}
+use Rattle.toml_formatter.specs.Documents.{Draft, Level, document_from, draft_with, entry_with_comma, level_end, level_with_comma}
+use Rattle.toml_formatter.specs.Documents.{levels_after}
 use Rattle.toml_formatter.specs.Documents.{ended_in, toml_document, levels_closed, list_tree, with_comment}
-use Rattle.toml_formatter.specs.Documents.{after_part, lexeme_tree, new_statement, no_draft, part_end, separated, with_ended_line, with_part}
+use Rattle.toml_formatter.specs.Documents.{lexeme_tree, new_statement, no_draft, separated, with_ended_line, with_part}
 use Rattle.toml_formatter.specs.Gaps.{gap_before_part, gap_before_text}
 use Rattle.toml_formatter.specs.Kinds.{array_in, last_after_sort, last_after_text}
 use Rattle.toml_formatter.specs.Numbers.{only_number_words, opened_kind}
-use Rattle.toml_formatter.specs.ReadAgain.{is_word, joined_from, lexeme_then, lexemes_then, with_word, word_then}
+use Rattle.toml_formatter.proofs.ReadTexts.{is_word, joined_from, lexeme_then, lexemes_then, with_word, word_then}
 use Rattle.toml_formatter.specs.Spellings.{Bit, end_of_line, text_of, word_bits}
 use Rattle.toml_formatter.specs.declared.gaps.Gap.{Gap}
 use Rattle.toml_formatter.specs.declared.gaps.Gap.TheVariants as gap
 use Rattle.toml_formatter.specs.declared.kind.Kind.{Kind}
-use Rattle.toml_formatter.specs.declared.kind.Kind.TheVariants.{Header, Statement}
+use Rattle.toml_formatter.specs.declared.kind.Kind.TheVariants.{Header}
 use Rattle.toml_formatter.specs.declared.kind.Last.{Last}
 use Rattle.toml_formatter.specs.declared.style.Style.{Style}
-use Rattle.toml_formatter.proofs.AlikeDrafts.{Alike, AreBrackets, AreTwins, DraftsAlike, EndsAlike, IsTwin, OpensSame, alike_same, ended_alike}
-use Rattle.toml_formatter.proofs.AlikeDrafts.{level_alike, same_kind, same_opening, text_end_alike, twin, twin_part, twin_same, twins_after}
-use Rattle.toml_formatter.proofs.JoinedDocuments.{ends_both, no_word_sort, IsInArray, IsAfterWord, IsKeyDue, after_sign, both_due, innermost_more, line_none, numbers_joined, plain_after}
+use Rattle.toml_formatter.proofs.AlikeDrafts.{Alike, AreBrackets, AreTwins, DraftsAlike, IsTwin, OpensSame, alike_same, ended_alike}
+use Rattle.toml_formatter.proofs.AlikeDrafts.{level_alike, same_kind, same_opening, text_end_alike, twin_part, twin_same, twins_after}
+use Rattle.toml_formatter.proofs.JoinedDocuments.{ends_both, no_word_sort, IsInArray, IsKeyDue, both_due, innermost_more, line_none}
+use Rattle.toml_formatter.proofs.JoinedDocuments.{numbers_joined, plain_after}
 use Rattle.toml_formatter.proofs.JoinedDocuments.{plain_before, space_none, stands_turn, word_due, word_letter, word_sort_is, words_meet_at}
 use Rattle.toml_formatter.proofs.LexemeFacts.{AreLexemes, EndsFirst, IsAlone, alone_is}
-use Rattle.toml_formatter.proofs.OrderlyTexts.{AreCalm, AreOpened, Fits, IsTaken, LedTo, WhereRead, idle_calm, steps}
+use Rattle.toml_formatter.proofs.OrderlyTexts.{AreCalm, AreOpened, Fits, WhereRead, idle_calm, steps}
 use Rattle.toml_formatter.proofs.ReadLists.{kind_before_is, kind_with}
 use Rattle.toml_formatter.proofs.ReadRows.{row}
 use Rattle.toml_formatter.proofs.ReadSteps.{IsLexeme, from_lexeme}
 use Rattle.toml_formatter.proofs.TreesAgain.{IsPlainWord, again_joined_words}
 use Rattle.toml_formatter.proofs.Written.{MaySpace}
-use Rattle.toml_formatter.proofs.Written.{EndsLine, IsKey, IsSpace, Lex, MayTouch, Place, Runs, Stands, Touch, after, after_space, at_line, comment}
-use Rattle.toml_formatter.proofs.Written.{lex_of, place, same_reading, sign, string, word}
+use Rattle.toml_formatter.proofs.Written.{IsKey, MayTouch, Place, Runs, Stands, Touch, after, after_space, at_line, comment}
+use Rattle.toml_formatter.proofs.Written.{lex_of, place, same_reading, word}
 
 -- ---- lexemes of texts
 
@@ -177,12 +176,14 @@ abbrev flushed : Option (List ℕ) → List Level → List Level
 flushed None levels = levels
 flushed (Some w) levels = levels_with_word w levels
 
-flushed_twins : (p : Option (List ℕ)) (a : Place) (levels others : List Level) → IsWaiting p a levels others → AreTwins levels (flushed p others)
+flushed_twins : (p : Option (List ℕ)) (a : Place) (levels others : List Level) → IsWaiting p a levels others
+    → AreTwins levels (flushed p others)
 flushed_twins None a levels others h = h.1
 flushed_twins (Some w) a levels others h = h.3
 
 module _ (style : Style) where
-  word_levels : (levels : List Level) (w : List ℕ) (rest : List (List ℕ)) → levels_after style sort.word levels w rest ≡ levels_with_word w levels
+  word_levels : (levels : List Level) (w : List ℕ) (rest : List (List ℕ))
+      → levels_after style sort.word levels w rest ≡ levels_with_word w levels
   word_levels [] w rest = refl
   word_levels (lv ∷ lvs) w rest = refl
 
@@ -197,7 +198,8 @@ module _ (style : Style) where
   flush None a levels d rest h = refl
   flush (Some w) a levels d rest h = word_read d w rest h.1
 
-  word_twins : (levels others : List Level) (s : List ℕ) → AreTwins levels others → AreTwins (levels_with_word s levels) (levels_with_word s others)
+  word_twins : (levels others : List Level) (s : List ℕ) → AreTwins levels others
+      → AreTwins (levels_with_word s levels) (levels_with_word s others)
   word_twins [] [] s t = (twin_same (with_part new_statement s (lexeme_tree s)), tt)
   word_twins [] (o ∷ os) s t = absurd t
   word_twins (lv ∷ lvs) [] s t = absurd t
@@ -268,12 +270,13 @@ join_twins lv other w x s ws ss pw ps meet ends h =
       ends = record {
         last = both_last w x s ws ss ends;
         tree =
-            subst (λ (a : Gap). Alike (separated a (level_end lv).tree (lexeme_tree t)) (separated (gap_before_text lv.kind z.last (w ++ t) other.blank) z.tree (lexeme_tree (w ++ t))))
+            subst (λ (a : Gap). Alike (separated a (level_end lv).tree (lexeme_tree t))
+            (separated (gap_before_text lv.kind z.last (w ++ t) other.blank) z.tree (lexeme_tree (w ++ t))))
             (sym nothing)
             (subst (λ (a : Gap). Alike (append (level_end lv).tree (lexeme_tree t)) (separated a z.tree (lexeme_tree (w ++ t)))) (sym same)
             (λ m ms.
-                let i = both.tree m ms in
-                (i.0, i.1 ++ word_bits t, again_joined_words g (level_end lv).tree z.tree m ms i.0 i.1 w t pw ps i.2)));
+            let i = both.tree m ms in
+            (i.0, i.1 ++ word_bits t, again_joined_words g (level_end lv).tree z.tree m ms i.0 i.1 w t pw ps i.2)));
       };
     }
 
@@ -298,7 +301,8 @@ header_kind kind ss ts e =
     ap (λ (k : Kind). opened_kind k false sort.open_array ss) e ∙ sym (ap (λ (k : Kind). opened_kind k false sort.open_array ts) e)
 
 array_same : (bits : List Bit) (b c : Place) (levels : List Level) → Runs c bits b → innermost c.reading.open_brackets ≡ Some bracket.Array
-    → IsInArray c.reading.next → (c.touch ≡ after word → ⊥) → OpensSame sort.open_array (lexemes_then bits []) (joined_from None bits) levels
+    → IsInArray c.reading.next → (c.touch ≡ after word → ⊥)
+    → OpensSame sort.open_array (lexemes_then bits []) (joined_from None bits) levels
 array_same bits b c [] runs i h t = refl
 array_same bits b c (lv ∷ lvs) runs i h t =
     kind_same lv.kind (lexemes_then bits []) (joined_from None bits) (numbers_joined bits c b None runs i h t)
@@ -336,9 +340,6 @@ calm_or levels s rest k e other (inl calm) = calm
 calm_or levels s rest k e other (inr ends) = absurd (other (sym e ∙ ends))
 
 module _ (style : Style) where
-  abbrev DraftTwins : Draft → Draft → Type 0
-  DraftTwins d e = DraftsAlike d e
-
   levels_twins : (d e : Draft) (levels others : List Level) → DraftsAlike d e → AreTwins levels others
       → DraftsAlike (record d { levels = levels }) (record e { levels = others })
   levels_twins d e levels others h t = record { done = h.done; some = h.some; blank = h.blank; levels = t }
@@ -396,7 +397,8 @@ lex_word sort.equals e = absurd (cc)
 lex_word sort.line_end e = absurd (cc)
 lex_word sort.text_end e = absurd (cc)
 
-not_after_word : (c : Place) (s : List ℕ) → IsWholeLexeme s → is_word s ≡ false → c.touch ≡ after (lex_of (sort_of s)) → c.touch ≡ after word → ⊥
+not_after_word : (c : Place) (s : List ℕ) → IsWholeLexeme s → is_word s ≡ false → c.touch ≡ after (lex_of (sort_of s))
+    → c.touch ≡ after word → ⊥
 not_after_word c s whole none t e =
     let same : after (lex_of (sort_of s)) ≡ after word = sym t ∙ e in
     let lex : lex_of (sort_of s) ≡ word = cc in
@@ -456,9 +458,12 @@ module _ (style : Style) where
         let joined = joined_from None bits in
         let touch = not_after_word c s st.whole none st.touch in
         let twins = draft_twins style k d fe s rest joined
-        (opens_for k bits a b c s t.0 d.levels refl st t.1 f calm runs touch) (alone_is s st.whole.alone) brackets (doubles_alike p a d e h) in
-        subst (Alike (document_from style d (s ∷ rest))) (sym (flush style p a d.levels e (s ∷ joined) h.waiting ∙ from_lexeme style k fe s joined refl))
-        (subst (λ (x : Tree). Alike x (document_from style (draft_with style k fe s joined) joined)) (sym (from_lexeme style k d s rest refl))
+        (opens_for k bits a b c s t.0 d.levels refl st t.1 f calm runs touch) (alone_is s st.whole.alone) brackets
+        (doubles_alike p a d e h) in
+        subst (Alike (document_from style d (s ∷ rest)))
+        (sym (flush style p a d.levels e (s ∷ joined) h.waiting ∙ from_lexeme style k fe s joined refl))
+        (subst (λ (x : Tree). Alike x (document_from style (draft_with style k fe s joined) joined))
+        (sym (from_lexeme style k d s rest refl))
         (more c b None (draft_with style k d s rest) (draft_with style k fe s joined) runs (stage_after k refl)
         (record { done = twins.done; some = twins.some; blank = twins.blank; waiting = (touch, twins.levels) })))
 
@@ -479,8 +484,7 @@ module _ (style : Style) where
       → is_word (x ∷ s) ≡ true → sort_of (x ∷ s) ≡ sort.word → IsWaiting p a levels others
       → IsWaiting (Some (with_word p (x ∷ s))) c (levels_with_word (x ∷ s) levels) others
   waiting_more None a c x s levels others st letter is h =
-      let t = stands_turn a c (x ∷ s) sort.word st is in
-      (
+      let t = stands_turn a c (x ∷ s) sort.word st is in (
         st.touch ∙ ap (λ (k : Sort). after (lex_of k)) is,
         is,
         word_due a.reading.next a.reading.open_brackets (innermost a.reading.open_brackets) t.0 x s c.reading t.1,
@@ -492,12 +496,12 @@ module _ (style : Style) where
       let bs = a.reading.open_brackets in
       let key = key_here (subst (λ (k : Touch). MayTouch k n (x ∷ s)) touch st.touches) in
       let pw = plain_before n w key due in
-      let ps = plain_after n bs (innermost bs) t.0 x s c.reading key t.1 in
-      (
+      let ps = plain_after n bs (innermost bs) t.0 x s c.reading key t.1 in (
         st.touch ∙ ap (λ (k : Sort). after (lex_of k)) is,
         front_sort w (x ∷ s) ws,
         both_due c.reading.next w x s pw (word_due n bs (innermost bs) t.0 x s c.reading t.1),
-        joined_twins levels others w x s ws is pw ps (words_meet_at n bs (innermost bs) t.0 w x s c.reading key due t.1) (ends_both w x s) twins,
+        joined_twins levels others w x s ws is pw ps (words_meet_at n bs (innermost bs) t.0 w x s c.reading key due t.1)
+            (ends_both w x s) twins,
       )
     where
       key_here : (ends_word x ≡ true) ⊎ (IsKey a.reading.next × (ends_word x ≡ false)) → IsKey a.reading.next
@@ -529,7 +533,8 @@ module _ (style : Style) where
       let rest = lexemes_then bits [] in
       let joined = joined_from None bits in
       let ended = ended_alike d fe d.levels fe.levels h.done h.some h.blank twins.levels in
-      subst (Alike (document_from style (with_ended_line d d.levels) rest)) (sym (flush style p a d.levels e ((10 ∷ []) ∷ joined) h.waiting))
+      subst (Alike (document_from style (with_ended_line d d.levels) rest))
+      (sym (flush style p a d.levels e ((10 ∷ []) ∷ joined) h.waiting))
       (joined_alike bits (place at_line r) b None (with_ended_line d d.levels) (with_ended_line fe fe.levels) runs
       (next_stage style sort.line_end d (10 ∷ []) [] a.reading r bits at_line refl ends stage.fits stage.opened stage.calm
       (lexemes_of_run (end_of_line ∷ bits) a b (r, may, ends, runs)) stage.brackets)
@@ -549,8 +554,8 @@ module _ (style : Style) where
       }) in
       subst
       (λ (u : List ℕ).
-          Alike (document_from style d (lexeme_then u rest))
-          (document_from style e (cond (is_word u) (joined_from (Some (with_word p u)) bits) (word_then p (lexeme_then u joined)))))
+      Alike (document_from style d (lexeme_then u rest))
+      (document_from style e (cond (is_word u) (joined_from (Some (with_word p u)) bits) (word_then p (lexeme_then u joined)))))
       (sym space.space)
       (subst (Alike (document_from style d rest)) (sym (flush style p a d.levels e joined h.waiting))
       (joined_alike bits on b None d fe (subst (λ (q : Place). Runs q bits b) space.place runs) here
@@ -564,13 +569,13 @@ module _ (style : Style) where
       subst (λ (ss : List (List ℕ)). AreCalm d.levels ⊎ EndsFirst ss) (alone rest) stage.calm in
       subst
       (λ (ss : List (List ℕ)).
-          Alike (document_from style d ss)
-          (document_from style e (cond (is_word s) (joined_from (Some (with_word p s)) bits) (word_then p (lexeme_then s joined)))))
+      Alike (document_from style d ss)
+      (document_from style e (cond (is_word s) (joined_from (Some (with_word p s)) bits) (word_then p (lexeme_then s joined)))))
       (sym (alone rest))
       (subst
       (λ (ss : List (List ℕ)).
-          Alike (document_from style d (s ∷ rest))
-          (document_from style e (cond (is_word s) (joined_from (Some (with_word p s)) bits) (word_then p ss))))
+      Alike (document_from style d (s ∷ rest))
+      (document_from style e (cond (is_word s) (joined_from (Some (with_word p s)) bits) (word_then p ss))))
       (sym (alone joined))
       (text_alike bits (joined_alike bits) a b c p s d e st runs are stage.fits stage.opened calm stage.brackets h (is_word s) refl))
 

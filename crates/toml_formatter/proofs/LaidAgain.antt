@@ -1,7 +1,6 @@
 -- The layout of a TOML text that is laid out again is the same bytes.
-use Rattle.std.proofs.Common.{◌≡◌, refl, sym, ◌∙◌, ap, subst, ℕ, List, []}
+use Rattle.std.proofs.Common.{◌≡◌, refl, ◌∙◌, ap, ℕ, List, []}
 use Rattle.std.specs.Prelude.{None}
-use Rattle.prettyless.specs.Tree.{Tree}
 use Rattle.prettyless_model.specs.Layout.{Whole, layout}
 use Rattle.prettyless_model.specs.declared.mode.Mode.TheVariants.{Break}
 use Rattle.toml_lexemes.specs.Lexemes.{toml_lexemes_of}
@@ -9,9 +8,9 @@ use Rattle.toml_grammar.specs.Grammar.{first_reading}
 use Rattle.toml_formatter.specs.Documents.{toml_document}
 use Rattle.toml_formatter.specs.Formats.{toml_options}
 use Rattle.toml_formatter.specs.LaidLaws.{LayoutsAreLaidAgain}
-use Rattle.toml_formatter.specs.ReadAgain.{joined_from, lexemes_then}
-use Rattle.toml_formatter.specs.Spellings.{AreWritten, Bit}
-use Rattle.toml_formatter.specs.TreesAgain.{layout_modes, spelled_in}
+use Rattle.toml_formatter.proofs.ReadTexts.{joined_from, lexemes_then}
+use Rattle.toml_formatter.specs.Spellings.{Bit}
+use Rattle.toml_formatter.proofs.Again.{layout_modes, spelled_in}
 use Rattle.toml_formatter.proofs.AlignedAgain.{documents_stay}
 use Rattle.toml_formatter.proofs.ExactDocuments.{exact_document}
 use Rattle.toml_formatter.proofs.JoinedLayouts.{joined_documents}

@@ -65,8 +65,8 @@ use Rattle.toml_formatter.proofs.Spellings.{layouts_are_spellings}
 use Rattle.toml_formatter.proofs.Stacks.{IsOpen, IsStack, first_opens, line_place, not_statement, open_last, opens_to, stack_closed}
 use Rattle.toml_formatter.proofs.Stacks.{stack_fits, stack_level}
 use Rattle.toml_formatter.proofs.Stacks.{stack_opened, stack_top}
-use Rattle.toml_formatter.proofs.Written.{GoesOn, MayEnd, Place, Runs, Touch, after, at_line, begins_as, BeginsAs, comment, goes, lex_of}
-use Rattle.toml_formatter.proofs.Written.{place, same_reading}
+use Rattle.toml_formatter.proofs.Written.{GoesOn, MayEnd, Place, Runs, after, at_line, begins_as, BeginsAs, comment, goes, lex_of, place}
+use Rattle.toml_formatter.proofs.Written.{same_reading}
 
 -- ---- the lexemes of a text
 
@@ -539,9 +539,6 @@ IsOpened (lv ∷ lvs) ss r = (c : Context) × IsStack c (lv ∷ lvs) r × Single
 record IsRead (d : Draft) (ss : List (List ℕ)) (r : Reading) : Type 0 where
   done : Leads line_place d.done IsLinePlace
   opened : IsOpened d.levels ss r
-
-statement_within : (c : Context) (bs : List Bracket) → c ≡ statement → Within c bs → bs ≡ []
-statement_within c bs e w = subst (λ (d : Context). Within d bs) e w
 
 module _ (style : Style) (s g : List ℕ) (ss : List (List ℕ)) (r t : Reading) (is_good : IsGood s ss)
     (step : lexeme_step r (after_toml_gap g s) ≡ Ok t) where

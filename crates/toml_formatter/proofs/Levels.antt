@@ -1,5 +1,5 @@
 -- Each lexeme of a text leads the document of what is open to where it leads the grammar.
-use Rattle.std.proofs.Common.{◌≡◌, refl, sym, ◌∙◌, ap, subst, ℕ, Bool, true, false, ◌||◌, List, [], ◌∷◌, ◌⊎◌, inl, inr}
+use Rattle.std.proofs.Common.{◌≡◌, refl, sym, ◌∙◌, ap, subst, ℕ, Bool, true, false, ◌||◌, List, [], ◌∷◌, inl, inr}
 use Rattle.std.specs.Prelude.{Option, Some, None, Ok}
 use Rattle.std.specs.List.{list_any}
 use Rattle.prettyless.specs.Tree.{Tree}
@@ -30,9 +30,7 @@ use Rattle.toml_formatter.proofs.Readings.{Context, Fits, FitsComma, In, IsAfter
 use Rattle.toml_formatter.proofs.Readings.{after_stops, array, header, headers, in_fits, one_leads, part_ready, reading, stands, statement}
 use Rattle.toml_formatter.proofs.Readings.{table, touch_at, turn_at, where_ok}
 use Rattle.toml_formatter.proofs.Rows.{CommaTo, Covers, HasComma, HasComments, IsArrayNext, IsAt, IsCommentText, MayBeMany, MayComment}
-use Rattle.toml_formatter.proofs.Rows.{Reaches}
-use Rattle.toml_formatter.proofs.Rows.{ended, ended_same, ended_twice, fits_comma, rest_reaches, value_covers}
-use Rattle.toml_formatter.proofs.Rows.{value_on_line}
+use Rattle.toml_formatter.proofs.Rows.{Reaches, ended, ended_same, ended_twice, fits_comma, rest_reaches, value_covers, value_is_on_line}
 use Rattle.toml_formatter.proofs.Written.{Place, after, lex_of, place, same_reading}
 
 -- what is read of a level has led from a place to where this may come next
@@ -181,7 +179,7 @@ comma_level c a lv bs n s g t h sorted step =
     let is = comma_goes bs (innermost bs) t turn.1 in
     let to : CommaTo bs t.next = turn.1 ∙ ap (λ (r : Reading). Ok r) is in
     let none = no_comma c bs h.p h.q n lv.entry.comma lv.entry.comments h.within h.comma h.comments turn.0 in
-    let plain = holds_not (part_end lv).last (value_on_line c (part_end lv).last h.p h.fits none.1) in
+    let plain = holds_not (part_end lv).last (value_is_on_line c (part_end lv).last h.p h.fits none.1) in
     let level : IsLevel c a (entry_with_comma false lv) bs t.next = record {
       kind = h.kind;
       within = h.within;
@@ -198,10 +196,6 @@ comma_level c a lv bs n s g t h sorted step =
     )
 
 -- ---- comments
-
-line_or : (n : Next) → In statement n → (n ≡ next.Line) ⊎ (n ≡ next.Line → ⊥)
-line_or next.Line h = inl refl
-line_or n h = inr (λ e. cc)
 
 comment_after_turn : (bs : List Bracket) (n : Next) (b : Option Bracket) (ok : Bool) (t : Reading) → turned bs (comment_after n b ok) ≡ Ok t
     → (ok ≡ true) × (t ≡ reading bs next.After) × (b ≡ Some bracket.Table → ⊥)

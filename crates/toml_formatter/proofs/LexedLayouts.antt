@@ -1,9 +1,8 @@
 -- The lexemes of what is written are its texts and line ends, where words side by side are one.
-use Rattle.std.proofs.Common.{◌≡◌, refl, sym, ◌∙◌, ap, subst, ℕ, zero, suc, Bool, true, false, cond, ◌==◌, ◌&&◌, ◌||◌, not, List, [], ◌∷◌, ◌++◌, append_assoc}
-use Rattle.std.proofs.Common.{All, inl, inr}
-use Rattle.std.proofs.lemmas.Bool.{true≢false}
+use Rattle.std.proofs.Common.{◌≡◌, refl, sym, ◌∙◌, ap, subst, ℕ, zero, suc, Bool, true, false, cond, not, List, [], ◌∷◌, ◌++◌, append_assoc}
+use Rattle.std.proofs.Common.{inl, inr}
 use Rattle.std.proofs.lemmas.List.Elements.{All-cons}
-use Rattle.std.specs.Prelude.{◌⊎◌, Option, Some, None}
+use Rattle.std.specs.Prelude.{Some, None}
 use Rattle.prettyless_model.specs.Options.{ending}
 use Rattle.prettyless_model.specs.Spaces.{spaces}
 use Rattle.prettyless_model.specs.declared.options.LineEnding.{LineEnding}
@@ -12,27 +11,28 @@ use Rattle.prettyless_model.specs.declared.options.RenderOptions.{RenderOptions}
 use Rattle.toml_lexemes.specs.Bytes.{ends_word, head, is_quote}
 use Rattle.toml_lexemes.specs.Lexemes.{between, cut_toml}
 use Rattle.toml_lexemes.specs.Shown.{IsWholeLexeme}
-use Rattle.toml_lexemes.specs.Spaced.{MayFollow}
 use Rattle.toml_lexemes.proofs.Gaps.{IsWellSpaced-lexemes, lexemes_alone}
 use Rattle.toml_lexemes.proofs.Kept.{same_lexemes}
 use Rattle.toml_lexemes.proofs.LineEnds.{cut-nil, cut_blank, cut_line_feed}
 use Rattle.toml_lexemes.proofs.WholeLexemes.{word_is_whole}
 use Rattle.toml_grammar.specs.Grammar.{Reading}
-use Rattle.toml_grammar.specs.Sorts as sort
 use Rattle.toml_grammar.specs.Sorts.{Sort, sort_of}
-use Rattle.toml_formatter.specs.ReadAgain.{is_word, joined_from, lexeme_then, with_word, word_then}
+use Rattle.toml_formatter.proofs.ReadTexts.{is_word, joined_from, lexeme_then}
 use Rattle.toml_formatter.specs.Spellings.{AreWritten, Bit, end_of_line, text_of}
-use Rattle.toml_formatter.proofs.JoinedDocuments.{no_word_sort, word_letter, word_sort_is}
+use Rattle.toml_formatter.proofs.JoinedDocuments.{no_word_sort, word_sort_is}
 use Rattle.toml_formatter.proofs.JoinedLayouts.{lex_word}
 use Rattle.toml_formatter.proofs.LexemeFacts.{alone_is}
 use Rattle.toml_grammar.specs.declared.next.Next.{Next}
-use Rattle.toml_formatter.proofs.Written.{BeginsAs, FollowsIf, MayEnd, IsKey, IsSpace, Lex, MaySpace, MayTouch, Place, Runs, Stands, Touch, after, after_space}
-use Rattle.toml_formatter.proofs.Written.{at_line, begins_as, comment, follows, follows_line, fresh, head_front, lex_of, place, sign, string, word}
+use Rattle.toml_formatter.proofs.Written.{BeginsAs, FollowsIf, MayEnd, Lex, MaySpace, MayTouch, Place, Runs, Stands, Touch, after}
+use Rattle.toml_formatter.proofs.Written.{after_space}
+use Rattle.toml_formatter.proofs.Written.{at_line, begins_as, comment, follows, follows_line, fresh, head_front, lex_of, place, sign}
+use Rattle.toml_formatter.proofs.Written.{string, word}
 use Rattle.toml_formatter.proofs.Written.{word_sort, words_alone}
 
 -- ---- one lexeme in front of others
 
-lexeme_front : (s rest : List ℕ) → IsWholeLexeme s → FollowsIf (lex_of (sort_of s)) rest → cut_toml between (s ++ rest) ≡ s ∷ cut_toml between rest
+lexeme_front : (s rest : List ℕ) → IsWholeLexeme s → FollowsIf (lex_of (sort_of s)) rest
+    → cut_toml between (s ++ rest) ≡ s ∷ cut_toml between rest
 lexeme_front s rest whole f =
     same_lexemes (s ++ rest) (s ∷ cut_toml between rest)
     (All-cons (λ t. cut_toml between t ≡ t ∷ []) s (cut_toml between rest) whole.alone (lexemes_alone rest))
@@ -97,7 +97,8 @@ space_lexed : (k : Lex) (bits : List Bit) (rest : List ℕ) → MaySpace (after 
     → IsLexed (after k) (text_of (32 ∷ []) ∷ bits) (32 ∷ rest)
 space_lexed k bits rest may h s whole e =
     front_as k s (32 ∷ rest) e whole (space_follows k rest may)
-    ∙ ap (λ (ss : List (List ℕ)). s ∷ ss) (cut_blank 32 rest refl ∙ h) ∙ apart k s (text_of (32 ∷ []) ∷ bits) (joined_from None bits) refl refl
+    ∙ ap (λ (ss : List (List ℕ)). s ∷ ss) (cut_blank 32 rest refl ∙ h)
+    ∙ apart k s (text_of (32 ∷ []) ∷ bits) (joined_from None bits) refl refl
 
 -- ---- texts
 
@@ -125,7 +126,8 @@ module _ (s : List ℕ) (bits : List Bit) (whole : IsWholeLexeme s) where
   goes_joined : (t : List ℕ) → is_word s ≡ true → joined_from (Some t) (text_of s ∷ bits) ≡ joined_from (Some (t ++ s)) bits
   goes_joined t e = ap (λ (w : Bool). cond w (joined_from (Some (t ++ s)) bits) (t ∷ lexeme_then s (joined_from None bits))) e
 
-module _ (s : List ℕ) (bits : List Bit) (rest : List ℕ) (whole : IsWholeLexeme s) (later : IsLexed (after (lex_of (sort_of s))) bits rest) where
+module _ (s : List ℕ) (bits : List Bit) (rest : List ℕ) (whole : IsWholeLexeme s)
+    (later : IsLexed (after (lex_of (sort_of s))) bits rest) where
   here : cut_toml between (s ++ rest) ≡ joined_from None (text_of s ∷ bits)
   here = later s whole refl ∙ begins_joined s bits whole (is_word s) refl
 
@@ -178,7 +180,7 @@ module _ (o : RenderOptions) (b : Place) (line : b.touch ≡ at_line) where
   lexed (text_of s ∷ bits) t r bytes (c, inr st, runs) w =
       text_lexed t r s c bits bytes st
       (λ rest v.
-          lexed bits (after (lex_of (sort_of s))) c.reading rest (subst (λ (u : Touch). Runs (place u c.reading) bits b) st.touch runs) v) w
+      lexed bits (after (lex_of (sort_of s))) c.reading rest (subst (λ (u : Touch). Runs (place u c.reading) bits b) st.touch runs) v) w
 
   -- the lexemes of what is written
   pub lexemes_written : (bits : List Bit) (r : Reading) (bytes : List ℕ) → Runs (place at_line r) bits b → AreWritten o true bits bytes

@@ -12,7 +12,6 @@ use Rattle.toml_lexemes.proofs.TextsApart.{no_blank}
 use Rattle.toml_lexemes.proofs.WholeLexemes.{no_lexeme}
 use Rattle.toml_grammar.specs.Sorts as sort
 use Rattle.toml_grammar.specs.Sorts.{Sort, sort_of}
-use Rattle.toml_formatter.specs.ReadAgain.{lexeme_then}
 use Rattle.toml_formatter.proofs.ReadSteps.{IsLexeme}
 use Rattle.toml_formatter.proofs.ReadDrafts.{BeginsComment}
 
@@ -53,7 +52,7 @@ comment_begins [] p = absurd (cc)
 comment_begins (x ∷ t) p = (
   t,
   ap (λ (y : ℕ). y ∷ t)
-  (eqb-true x 35 (comment_byte (x == 91) (x == 93) (x == 123) (x == 125) (x == 44) (x == 61) (x == 10) (x == 35) (is_quote x) p)),
+      (eqb-true x 35 (comment_byte (x == 91) (x == 93) (x == 123) (x == 125) (x == 44) (x == 61) (x == 10) (x == 35) (is_quote x) p)),
 )
 
 -- ---- no lexeme is the end of the text

@@ -8,7 +8,6 @@ pub mod DraftLemmas
 pub mod ExactDocuments
 pub mod Documents
 pub mod LineLemmas
-pub mod ListsAgain
 pub mod Trims
 pub mod Values
 pub mod Aligning
@@ -45,3 +44,7 @@ pub mod JoinedDocuments
 pub mod JoinedLayouts
 pub mod LexedLayouts
 pub mod LaidAgain
+pub mod Again
+pub mod AgainLaws
+pub mod ReadTexts
+pub mod GapFlags

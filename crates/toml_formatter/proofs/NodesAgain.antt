@@ -16,10 +16,10 @@ use Rattle.prettyless_laws.proofs.LineEnds.{breaks_read_alike}
 use Rattle.prettyless.specs.Built.{append, append_to, nest, nest_by}
 use Rattle.prettyless.specs.DocTree.{is_nil}
 use Rattle.toml_formatter.specs.Spellings.{Bit}
-use Rattle.toml_formatter.specs.TreesAgain.{Again, AreNoModes, IsFailed, IsFlatAgain, IsLaidLike, LooksSame, first_mode, group_mode}
-use Rattle.toml_formatter.specs.TreesAgain.{group_modes}
-use Rattle.toml_formatter.specs.TreesAgain.{later_modes, modes_after, spelled_in}
-use Rattle.toml_formatter.specs.TreesAgainLaws.{AppendedDocumentsStay, DocumentsStay}
+use Rattle.toml_formatter.proofs.Again.{Again, AreNoModes, IsFailed, IsFlatAgain, IsLaidLike, LooksSame, first_mode, group_mode}
+use Rattle.toml_formatter.proofs.Again.{group_modes}
+use Rattle.toml_formatter.proofs.Again.{later_modes, modes_after, spelled_in}
+use Rattle.toml_formatter.proofs.AgainLaws.{AppendedDocumentsStay, DocumentsStay}
 use Rattle.toml_formatter.proofs.LaidLike.{break_is_not_flat, broken_mode, failed_first, failed_second, first_modes, like_failed, like_same}
 use Rattle.toml_formatter.proofs.LaidLike.{like_then}
 use Rattle.toml_formatter.proofs.LaidLike.{same_mode, second_modes}

@@ -1,18 +1,20 @@
 -- The lexemes of TOML texts are orderly: commas are after items, brackets are closed, and comments are at the ends of lines.
-use Rattle.std.proofs.Common.{◌≡◌, refl, sym, ◌∙◌, ap, subst, arith, ℕ, suc, ◌+◌, ◌-◌, ◌≤◌, ◌<◌, Bool, true, false, cond, ◌==◌, ◌&&◌, ◌||◌, List, [], ◌∷◌, ◌++◌}
+use Rattle.std.proofs.Common.{◌≡◌, refl, sym, ◌∙◌, ap, subst, arith, ℕ, suc, ◌+◌, ◌-◌, ◌≤◌, ◌<◌, Bool, true, false, cond, ◌&&◌, ◌||◌}
+use Rattle.std.proofs.Common.{List, [], ◌∷◌, ◌++◌}
 use Rattle.std.proofs.Common.{inl, inr, get_or, length, take, drop, Result, Ok, Err, length-append}
 use Rattle.std.proofs.lemmas.List.{length-take-le}
-use Rattle.std.proofs.lemmas.Option.{slice_get_cases, slice_get_within}
+use Rattle.std.proofs.lemmas.Option.{slice_get_cases}
 use Rattle.std.specs.Prelude.{◌⊎◌, Option, Some, None, is_ok, slice_get}
 use Rattle.prettyless.specs.Tree.{Tree}
 use Rattle.toml_lexemes.specs.Bytes.{ends_with_dot}
-use Rattle.toml_lexemes.specs.Lexemes.{between, cut_toml, toml_lexemes_of}
-use Rattle.toml_lexemes.specs.SpacedLexemes.{SpacedToml, after_toml_gap, blanks, toml_spaced_as, toml_spaced_lexemes}
+use Rattle.toml_lexemes.specs.Lexemes.{toml_lexemes_of}
+use Rattle.toml_lexemes.specs.SpacedLexemes.{after_toml_gap, blanks, toml_spaced_as}
 use Rattle.toml_grammar.specs.Comments.{is_comment}
 use Rattle.toml_grammar.specs.Dates.{is_date, is_time}
-use Rattle.toml_grammar.specs.Grammar.{after_value_comma, array_end, at_end, comment_after, line_end_after, close_array_turn, close_table_turn, comma_turn, comment_turn, end_turn, equals_turn, key_turn, line_end_turn}
+use Rattle.toml_grammar.specs.Grammar.{after_value_comma, array_end, at_end, comment_after, line_end_after, close_array_turn}
+use Rattle.toml_grammar.specs.Grammar.{close_table_turn, comma_turn, comment_turn, end_turn, equals_turn, key_turn, line_end_turn}
 use Rattle.toml_grammar.specs.Grammar.{open_array_turn, open_table_turn, string_turn, table_end, value_turn, where_so, word_turn}
-use Rattle.toml_grammar.specs.Grammar.{Reading, first_reading, innermost, is_clear, is_empty_gap, is_line_end, is_one_space, is_toml, lexeme_step}
+use Rattle.toml_grammar.specs.Grammar.{Reading, innermost, is_clear, is_empty_gap, is_line_end, is_one_space, is_toml, lexeme_step}
 use Rattle.toml_grammar.specs.Grammar.{reading_after, sort_turn, then_lexemes, turned}
 use Rattle.toml_grammar.specs.Keys.{key_word}
 use Rattle.toml_grammar.specs.Sorts as sort
@@ -30,7 +32,7 @@ use Rattle.toml_grammar.specs.declared.next.Next.TheVariants as next
 use Rattle.toml_grammar.specs.declared.turn.LexemeTurn.{LexemeTurn}
 use Rattle.toml_grammar.specs.declared.turn.LexemeTurn.TheVariants as turn
 use Rattle.toml_formatter.specs.Documents.{Commented, after_rest, lexeme_tree, end_after_comma, list_tree, with_ended_line}
-use Rattle.toml_formatter.specs.Documents.{Draft, End, Level, draft_with, entry_with_comma, is_some, level_end, level_with_comma, levels_after, no_draft}
+use Rattle.toml_formatter.specs.Documents.{Draft, Level, draft_with, entry_with_comma, level_end, levels_after, no_draft}
 use Rattle.toml_formatter.specs.Documents.{new_statement, part_end, with_comment, with_line_end, with_part}
 use Rattle.toml_formatter.specs.Gaps.{is_last_comment}
 use Rattle.toml_formatter.specs.Kinds.{last_after_sort, last_after_text}
@@ -39,8 +41,9 @@ use Rattle.toml_formatter.specs.declared.kind.Kind.TheVariants.{Header}
 use Rattle.toml_formatter.specs.declared.kind.Last.{Last}
 use Rattle.toml_formatter.specs.declared.kind.Last.TheVariants as last
 use Rattle.toml_formatter.specs.declared.style.Style.{Style}
-use Rattle.toml_formatter.proofs.LexemeFacts.{AreLexemes, EndsFirst, IsAlone, alone_is, comment_begins, lexemes_are, some_sort}
-use Rattle.toml_formatter.proofs.ReadDrafts.{AreOrderly, BeginsComment, IsInBrackets, IsLeaf, IsOutside, MayCome, TakesCommaIn, TakesCommentIn, TakesPartIn}
+use Rattle.toml_formatter.proofs.LexemeFacts.{AreLexemes, EndsFirst, alone_is, comment_begins, lexemes_are, some_sort}
+use Rattle.toml_formatter.proofs.ReadDrafts.{AreOrderly, BeginsComment, IsInBrackets, IsLeaf, IsOutside, MayCome, TakesCommaIn}
+use Rattle.toml_formatter.proofs.ReadDrafts.{TakesCommentIn, TakesPartIn}
 use Rattle.toml_formatter.proofs.ReadLists.{Closes, Opens}
 use Rattle.toml_formatter.proofs.ReadSteps.{IsLexeme}
 
@@ -60,7 +63,8 @@ none_open : (bs : List Bracket) → innermost bs ≡ None → bs ≡ []
 none_open [] e = refl
 none_open (x ∷ bs) e = absurd (within (slice_get_cases (x ∷ bs) (length (x ∷ bs) - 1)).1)
   where
-    within : ((y : Bracket) × (length (x ∷ bs) - 1 < length (x ∷ bs)) × (slice_get (x ∷ bs) (length (x ∷ bs) - 1) ≡ Some y) × (get_or (x ∷ bs) (length (x ∷ bs) - 1) y ≡ y))
+    within : ((y : Bracket) × (length (x ∷ bs) - 1 < length (x ∷ bs)) × (slice_get (x ∷ bs) (length (x ∷ bs) - 1) ≡ Some y)
+        × (get_or (x ∷ bs) (length (x ∷ bs) - 1) y ≡ y))
         ⊎ ((length (x ∷ bs) ≤ length (x ∷ bs) - 1) × (slice_get (x ∷ bs) (length (x ∷ bs) - 1) ≡ None)) → ⊥
     within (inl (y, lt, same, is)) = cc
     within (inr (le, none)) = omega arith
@@ -534,7 +538,8 @@ module _ (style : Style) (rest : List (List ℕ)) (P : Reading → Type 0) where
   comment_leads next.Member bs s [] begins f o c ends t = absurd (omega (arith, f.0))
   comment_leads next.Member bs s (lv ∷ lvs) begins f o c ends t =
       comment_to next.Member bs s lv lvs o ends (taken_so bs (is_comment s) next.Member _ t) f
-  comment_leads next.After bs s levels begins f o c ends t = after_comment_leads next.After bs (innermost bs) (is_comment s) s levels f o ends t
+  comment_leads next.After bs s levels begins f o c ends t =
+      after_comment_leads next.After bs (innermost bs) (is_comment s) s levels f o ends t
   comment_leads next.AfterDate bs s levels begins f o c ends t =
       after_comment_leads next.AfterDate bs (innermost bs) (is_comment s) s levels f o ends t
   comment_leads n bs s levels begins f o c ends t = absurd t
@@ -654,8 +659,11 @@ module _ (style : Style) (d : Draft) (s : List ℕ) (ss : List (List ℕ)) (P : 
 
   close_steps : (k : Sort) → Closes k → IsLexeme s → IsInBrackets d.levels × LedTo (closed_levels style ss P s d.levels) ss P
       → (IsLexeme s × IsInBrackets d.levels) × LedTo (levels_after style k d.levels s ss) ss P
-  close_steps k closes alone (inside, h) =
-      ((alone, inside), led (closed_levels style ss P s d.levels) (levels_after style k d.levels s ss) (closed_is k d.levels closes inside) h)
+  close_steps k closes alone (inside, h) = (
+    (alone, inside),
+    led (closed_levels style ss P s d.levels) (levels_after style k d.levels s ss)
+        (closed_is k d.levels closes inside) h,
+  )
 
   leaf_steps : (k : Sort) → IsLeaf k → LedTo (leaf_levels style ss P s d.levels) ss P
       → LedTo (levels_after style k d.levels s ss) ss P
@@ -664,14 +672,12 @@ module _ (style : Style) (d : Draft) (s : List ℕ) (ss : List (List ℕ)) (P : 
   pub steps : (k : Sort) (n : Next) (bs : List Bracket) (g : List ℕ) → sort_of s ≡ k → IsTaken bs (sort_turn k n (innermost bs) g s) P
       → Fits n bs d.levels → AreOpened d.levels → AreCalm d.levels ⊎ EndsFirst (s ∷ ss) → AreLexemes (s ∷ ss) → Steps k
   steps sort.open_array n bs g e t f o c are =
-      let calm = calm_now d.levels s ss sort.open_array e (λ p. absurd (cc)) c in
-      (
+      let calm = calm_now d.levels s ss sort.open_array e (λ p. absurd (cc)) c in (
         (alone_is s are.0, takes_part d.levels calm),
         open_array_leads style ss P n bs g s d.levels (holds_sort sort.open_array s e (λ dotted. refl)) f o calm t,
       )
   steps sort.open_table n bs g e t f o c are =
-      let calm = calm_now d.levels s ss sort.open_table e (λ p. absurd (cc)) c in
-      (
+      let calm = calm_now d.levels s ss sort.open_table e (λ p. absurd (cc)) c in (
         (alone_is s are.0, takes_part d.levels calm),
         open_table_leads style ss P n bs s d.levels (holds_sort sort.open_table s e (λ dotted. refl)) f o calm t,
       )
@@ -681,27 +687,26 @@ module _ (style : Style) (d : Draft) (s : List ℕ) (ss : List (List ℕ)) (P : 
       close_steps sort.close_table tt (alone_is s are.0) (close_table_leads style ss P n bs s d.levels f o t)
   steps sort.comma n bs g e t f o c are = comma_leads style ss P n bs s d.levels f o t
   steps sort.equals n bs g e t f o c are =
-      let calm = calm_now d.levels s ss sort.equals e (λ p. absurd (cc)) c in
-      (
+      let calm = calm_now d.levels s ss sort.equals e (λ p. absurd (cc)) c in (
         (alone_is s are.0, takes_part d.levels calm),
         leaf_steps sort.equals tt (equals_leads style ss P n bs s d.levels (holds_sort sort.equals s e (λ dotted. refl)) f o t),
       )
-  steps sort.line_end n bs g e t f o c are =
-      (tt, led (ended_levels style ss P d.levels) (with_ended_line d d.levels).levels (sym (ended_is d.levels))
-      (line_end_leads style ss P n bs d.levels f o t))
+  steps sort.line_end n bs g e t f o c are = (
+    tt,
+    led (ended_levels style ss P d.levels) (with_ended_line d d.levels).levels (sym (ended_is d.levels))
+        (line_end_leads style ss P n bs d.levels f o t),
+  )
   steps sort.comment n bs g e t f o c are =
       let calm = calm_now d.levels s ss sort.comment e (λ p. absurd (cc)) c in
       let begins = comment_begins s e in
       ((begins, takes_comment d.levels calm), comment_leads style ss P n bs s d.levels begins f o calm (are.1 e) t)
   steps sort.string n bs g e t f o c are =
-      let calm = calm_now d.levels s ss sort.string e (λ p. absurd (cc)) c in
-      (
+      let calm = calm_now d.levels s ss sort.string e (λ p. absurd (cc)) c in (
         (alone_is s are.0, takes_part d.levels calm),
         leaf_steps sort.string tt (string_leads style ss P n bs s d.levels (holds_sort sort.string s e (λ dotted. refl)) f o calm t),
       )
   steps sort.word n bs g e t f o c are =
-      let calm = calm_now d.levels s ss sort.word e (λ p. absurd (cc)) c in
-      (
+      let calm = calm_now d.levels s ss sort.word e (λ p. absurd (cc)) c in (
         (alone_is s are.0, takes_part d.levels calm),
         leaf_steps sort.word tt (word_leads style ss P n bs g s d.levels (holds_sort sort.word s e word_last) f o calm t),
       )
@@ -729,11 +734,10 @@ orderly_from style (s ∷ ss) bytes bs n d t f o c are =
     let more = λ (u : Reading). reading_after u (toml_spaced_as left ss) in
     let step = steps style d s ss (λ u. is_ok (more u) ≡ true) k n bs g refl
     (clear_taken (is_clear g (is_line_end k)) bs (sort_turn k n (innermost bs) g s) want.LineFeed (λ u. is_ok (more u) ≡ true)
-    (where_ok (lexeme_step r (after_toml_gap g s)) more t)) f o c are in
-    (
+    (where_ok (lexeme_step r (after_toml_gap g s)) more t)) f o c are in (
       step.0,
       orderly_from style ss left step.1.brackets step.1.due (draft_with style k d s ss) step.1.ok step.1.fits step.1.opened step.1.calm
-      are.2,
+          are.2,
     )
 
 -- the lexemes of a TOML text are orderly

@@ -1,36 +1,40 @@
 -- Documents that a layout has, where they are read again.
-use Rattle.std.proofs.Common.{◌≡◌, refl, sym, ◌∙◌, ap, subst, ℕ, Bool, true, false, cond, ◌==◌, ◌&&◌, ◌||◌, not, List, [], ◌∷◌, ◌++◌, inl, inr}
-use Rattle.std.specs.Prelude.{◌⊎◌, Option, Some, None}
+use Rattle.std.proofs.Common.{◌≡◌, refl, sym, ◌∙◌, ap, subst, ℕ, Bool, true, false, ◌==◌, ◌&&◌, ◌||◌, not, List, [], ◌∷◌, ◌++◌}
+use Rattle.std.specs.Prelude.{Option, Some, None}
 use Rattle.prettyless.specs.Counted as counted
 use Rattle.prettyless.specs.Tree.{Tree, Nil}
 use Rattle.prettyless_model.specs.declared.mode.Mode.{Mode}
-use Rattle.prettyless_model.specs.declared.mode.Mode.TheVariants.{Break, Flat}
+use Rattle.prettyless_model.specs.declared.mode.Mode.TheVariants.{Break}
 use Rattle.toml_lexemes.specs.Bytes as byte
 use Rattle.toml_lexemes.specs.Bytes.{dot, head}
 use Rattle.toml_lexemes.specs.Statements.{before_trimmed, trimmed}
 use Rattle.toml_lexemes.proofs.Trimmed.{trimmed_twice}
 use Rattle.toml_grammar.specs.Sorts as sort
 use Rattle.toml_grammar.specs.Sorts.{Sort, sort_of}
-use Rattle.toml_formatter.specs.Documents.{Commented, Draft, End, Level, Part, RowEntry, after_part, after_rest, closed_end, document_from, draft_with}
-use Rattle.toml_formatter.specs.Documents.{draft_with_statement, ended_in, entry_with_comma, with_ended_line, is_some, level_end, level_with_comma, levels_after, lexeme_tree, lines_with}
-use Rattle.toml_formatter.specs.Documents.{list_tree, new_level, new_statement, no_draft, no_end, part_end, toml_document, with_comment, with_line_end, with_part}
+use Rattle.toml_formatter.specs.Documents.{Commented, Draft, Level, Part, closed_end, document_from, draft_with}
+use Rattle.toml_formatter.specs.Documents.{draft_with_statement, ended_in, entry_with_comma, with_ended_line, is_some, level_end}
+use Rattle.toml_formatter.specs.Documents.{level_with_comma, levels_after, lexeme_tree, lines_with}
+use Rattle.toml_formatter.specs.Documents.{list_tree, new_level, new_statement, no_draft, no_end, part_end, toml_document, with_comment}
+use Rattle.toml_formatter.specs.Documents.{with_line_end, with_part}
 use Rattle.toml_formatter.specs.Gaps.{is_last_comment}
 use Rattle.toml_formatter.specs.Kinds.{kind_in, last_after_text}
 use Rattle.toml_formatter.specs.Lines.{may_hold}
 use Rattle.toml_formatter.specs.Numbers.{is_among_numbers, is_number_word, only_number_words, opened_kind}
-use Rattle.toml_formatter.specs.ReadAgain.{lexeme_then, lexemes_then}
-use Rattle.toml_formatter.specs.Spellings.{Bit, end_of_line, text_of, word_bits}
-use Rattle.toml_formatter.specs.TreesAgain.{Again}
+use Rattle.toml_formatter.proofs.ReadTexts.{lexemes_then}
+use Rattle.toml_formatter.specs.Spellings.{Bit, end_of_line, word_bits}
+use Rattle.toml_formatter.proofs.Again.{Again}
 use Rattle.toml_formatter.specs.declared.kind.Kind.{Kind}
 use Rattle.toml_formatter.specs.declared.kind.Kind.TheVariants.{Statement}
 use Rattle.toml_formatter.specs.declared.kind.Last.{Last}
 use Rattle.toml_formatter.specs.declared.style.Style.{Style}
 use Rattle.toml_formatter.proofs.TreesAgain.{again_lexeme, again_lines, again_same, again_text, blank_bits}
-use Rattle.toml_formatter.proofs.ReadSteps.{Counts, IsAround, IsCalm, IsFirst, IsLexeme, Leads, Place, begun, counts_text, fresh, from_text, inside, is_first}
+use Rattle.toml_formatter.proofs.ReadSteps.{IsAround, IsCalm, IsFirst, IsLexeme, Leads, Place, begun, counts_text, fresh, from_text}
+use Rattle.toml_formatter.proofs.ReadSteps.{inside, is_first}
 use Rattle.toml_formatter.proofs.ReadSteps.{level_of, on_line, read_both, stacked, started}
-use Rattle.toml_formatter.proofs.ReadRows.{AreComments, BodyReads, CommaRead, EntryRead, IsAlike, IsComment, PartRead, PartReads, RowReads, TakesComma}
-use Rattle.toml_formatter.proofs.ReadRows.{TakesComments, body_as_row, body_with_part, body_with_rest, row}
-use Rattle.toml_formatter.proofs.ReadLists.{Closes, ClosedReads, Opens, closed_reads, closes_is, closes_numbers, kind_before_is, kind_with, list_reads}
+use Rattle.toml_formatter.proofs.ReadRows.{AreComments, BodyReads, IsAlike, IsComment, PartReads, RowReads, TakesComma}
+use Rattle.toml_formatter.proofs.ReadRows.{TakesComments, body_as_row, body_with_part, body_with_rest}
+use Rattle.toml_formatter.proofs.ReadLists.{Closes, ClosedReads, Opens, closed_reads, closes_is, closes_numbers, kind_before_is}
+use Rattle.toml_formatter.proofs.ReadLists.{kind_with, list_reads}
 use Rattle.toml_formatter.proofs.ReadLists.{opens_is}
 
 -- ---- single lexemes
@@ -235,7 +239,8 @@ module _ (style : Style) where
       → LevelReads style (begun place) (with_comments_number n lv && k) (with_part lv s tree)
   level_part place n k lv s tree h part calm = record {
     body =
-        body_with_part style lv.kind lv.opening place (level_end lv) s tree lv.blank (with_comments_number n lv) k calm (rows_of place n lv h) part;
+        body_with_part style lv.kind lv.opening place (level_end lv) s tree lv.blank (with_comments_number n lv) k calm
+        (rows_of place n lv h) part;
     comma = tt;
     comments = no_comments lv.kind lv.opening place _;
     are = tt;
@@ -266,9 +271,9 @@ module _ (style : Style) where
   stack_part v w k lv lvs s tree (n, h, o, more) part calm e = (
     with_comments_number n lv && k,
     subst (λ (p : Place). LevelReads style p (with_comments_number n lv && k) (with_part lv s tree)) (place_begun lv lvs s tree)
-    (level_part (place_of lv lvs) n k lv s tree h part calm),
+        (level_part (place_of lv lvs) n k lv s tree h part calm),
     opened_on (with_comments_number n lv && v) (((with_comments_number n lv && k) && true) && w) lv (with_part lv s tree) lvs
-    (ap (λ (b : Bool). with_comments_number n lv && b) e ∙ three_and (with_comments_number n lv) k w) refl refl o,
+        (ap (λ (b : Bool). with_comments_number n lv && b) e ∙ three_and (with_comments_number n lv) k w) refl refl o,
     more,
   )
 
@@ -389,8 +394,8 @@ module _ (style : Style) where
       → AreRead rest (with_part lv s (lexeme_tree s) ∷ lvs)
   with_leaf k s rest v lv lvs leaf is e h alone takes = (
     stack_part style v (only_number_words rest) (leaf_number k s) lv lvs s (lexeme_tree s) h
-    (leaf_reads style k (is_first (place_of lv lvs)) lv.kind s leaf alone is) (calm_in lv lvs h.1.statement takes)
-    (e ∙ leaf_is k s (only_number_words rest) leaf),
+        (leaf_reads style k (is_first (place_of lv lvs)) lv.kind s leaf alone is) (calm_in lv lvs h.1.statement takes)
+        (e ∙ leaf_is k s (only_number_words rest) leaf),
     begun_part lv lvs s (lexeme_tree s),
   )
 
@@ -399,8 +404,7 @@ module _ (style : Style) where
       → v ≡ is_among_numbers k s (only_number_words rest) → is_first (place_of lv lvs) ≡ first → StackReads style v (lv ∷ lvs) → IsLexeme s
       → TakesPartIn (lv ∷ lvs) → AreRead rest (new_level (opened_kind lv.kind first k rest) s ∷ lv ∷ lvs)
   with_open k s rest v first lv lvs opens is e f h alone takes =
-      let kind = opened_kind lv.kind first k rest in
-      (
+      let kind = opened_kind lv.kind first k rest in (
         (
           true,
           new_reads inside kind s tt (nothing_read kind s) tt,
@@ -428,11 +432,10 @@ module _ (style : Style) where
       let kind : lv.kind ≡ kind_with (kind_in outer.kind (is_first (place_of outer lvs)) o.by) (nn && closes_numbers j) =
       o.kind
       ∙ ap (λ (b : Bool). kind_with (kind_in outer.kind (is_first (place_of outer lvs)) o.by) (nn && b))
-      (e ∙ closes_is j s (only_number_words rest) closes) in
-      (
+      (e ∙ closes_is j s (only_number_words rest) closes) in (
         stack_part style false (only_number_words rest) false outer lvs lv.opening (list_tree style lv s) more
-        (list_reads style o.by j (is_first (place_of outer lvs)) outer.kind nn lv s o.opens o.is o.alone closes is alone kind
-        (closed_of_level style n lv h)) o.calm refl,
+            (list_reads style o.by j (is_first (place_of outer lvs)) outer.kind nn lv s o.opens o.is o.alone closes is alone kind
+            (closed_of_level style n lv h)) o.calm refl,
         begun_part outer lvs lv.opening (list_tree style lv s),
       )
 
@@ -445,7 +448,7 @@ module _ (style : Style) where
       n,
       record { body = h.body; comma = (refl, hold); comments = h.comments; are = h.are; statement = tt },
       opened_on style (with_comments_number n lv && v) (with_comments_number n lv && only_number_words rest) lv (entry_with_comma false lv)
-      (outer ∷ lvs) (ap (λ (b : Bool). with_comments_number n lv && b) e) refl refl o,
+          (outer ∷ lvs) (ap (λ (b : Bool). with_comments_number n lv && b) e) refl refl o,
       more,
     ),
     tt,
@@ -506,14 +509,14 @@ module _ (style : Style) where
   with_comment_on : (s : List ℕ) (rest : List (List ℕ)) (v : Bool) (lv : Level) (lvs : List Level) → v ≡ false → BeginsComment s
       → TakesCommentIn (lv ∷ lvs) → StackReads style v (lv ∷ lvs) → IsBegun (lv ∷ lvs) → AreRead rest (with_comment lv s ∷ lvs)
   with_comment_on s rest v lv lvs e begins takes (n, h, o, more) begun =
-      let c : Commented = record { broken = lv.broken; blank = lv.blank; comment = s } in
-      (
+      let c : Commented = record { broken = lv.broken; blank = lv.blank; comment = s } in (
         (
           n,
           subst (λ (p : Place). LevelReads style p n (with_comment lv s)) (place_comment lv lvs s)
-          (commented_reads (place_of lv lvs) n lv s h begins (takes_comment lv lvs c h.statement begun takes)),
+              (commented_reads (place_of lv lvs) n lv s h begins (takes_comment lv lvs c h.statement begun takes)),
           opened_on style (with_comments_number n lv && v) ((n && false) && only_number_words rest) lv (with_comment lv s) lvs
-          (ap (λ (b : Bool). with_comments_number n lv && b) e ∙ no_more (with_comments_number n lv) n (only_number_words rest)) refl refl o,
+              (ap (λ (b : Bool). with_comments_number n lv && b) e
+              ∙ no_more (with_comments_number n lv) n (only_number_words rest)) refl refl o,
           more,
         ),
         begun_comment lv lvs s begun,
@@ -527,7 +530,7 @@ module _ (style : Style) where
       n,
       record { body = h.body; comma = h.comma; comments = h.comments; are = h.are; statement = tt },
       opened_on style (with_comments_number n lv && v) (with_comments_number n lv && only_number_words rest) lv (with_line_end lv)
-      (outer ∷ lvs) (ap (λ (b : Bool). with_comments_number n lv && b) e) refl refl o,
+          (outer ∷ lvs) (ap (λ (b : Bool). with_comments_number n lv && b) e) refl refl o,
       more,
     ),
     tt,
@@ -574,12 +577,13 @@ module _ (style : Style) where
   first_read sort.line_end s rest is may other = absurd (other refl)
   first_read sort.comment s rest is may other = (
     stack_part style false (only_number_words rest) false new_statement [] s (counted.text (trimmed s)) (stack_new false)
-    (comment_reads style s may.0) (refl, refl) refl,
+        (comment_reads style s may.0) (refl, refl) refl,
     refl,
   )
   first_read sort.string s rest is may other = with_leaf sort.string s rest false new_statement [] tt is refl (stack_new false) may.0 refl
   first_read sort.word s rest is may other =
-      with_leaf sort.word s rest _ new_statement [] tt is refl (stack_new (is_among_numbers sort.word s (only_number_words rest))) may.0 refl
+      with_leaf sort.word s rest _ new_statement [] tt is refl
+      (stack_new (is_among_numbers sort.word s (only_number_words rest))) may.0 refl
   first_read sort.text_end s rest is may other = absurd may
 
   after_read : (k : Sort) (s : List ℕ) (rest : List (List ℕ)) (v : Bool) (levels : List Level) → sort_of s ≡ k
@@ -653,7 +657,8 @@ module _ (style : Style) where
           left = row_read.left;
           bits = r.bits ++ (blank_bits d.blank ++ (row_read.bits ++ end));
           related =
-              again_lines d.blank d.done r.again (level_end lv).tree (level_end w).tree ms r.left row_read.left r.bits row_read.bits r.related
+              again_lines d.blank d.done r.again (level_end lv).tree
+              (level_end w).tree ms r.left row_read.left r.bits row_read.bits r.related
               row_read.related;
           leads = λ left.
               ap (document_from style no_draft)
@@ -663,7 +668,8 @@ module _ (style : Style) where
               ∙ ap (lexemes_then (blank_bits d.blank)) (read_both row_read.bits end left)))
               ∙ r.leads (lexemes_then (blank_bits d.blank) (lexemes_then row_read.bits (lexemes_then end left)))
               ∙ blank_leads r.again d.some d.blank (lexemes_then row_read.bits (lexemes_then end left)) h.blank
-              ∙ ap (λ (ls : List Level). document_from style (record a { levels = ls }) (lexemes_then row_read.bits (lexemes_then end left)))
+              ∙ ap (λ (ls : List Level). document_from style (record a { levels = ls })
+              (lexemes_then row_read.bits (lexemes_then end left)))
               (sym (bottom_started lv.entry.part lv.kind lv.opening))
               ∙ row_read.leads [] (bottom_around lv.entry.part) a (lexemes_then end left)
               ∙ ap (λ (b : Bool). document_from style (record a { levels = stacked b w [] }) (lexemes_then end left)) h.begun

@@ -1,23 +1,23 @@
 -- Lists that a layout has, where they are read again.
-use Rattle.std.proofs.Common.{◌≡◌, refl, sym, ◌∙◌, ap, subst, ℕ, Bool, true, false, cond, ◌==◌, ◌&&◌, ◌||◌, not, List, [], ◌∷◌, ◌++◌, inl, inr}
-use Rattle.std.specs.Prelude.{◌⊎◌, Option, Some, None}
-use Rattle.prettyless.specs.Counted as counted
+use Rattle.std.proofs.Common.{◌≡◌, refl, sym, ◌∙◌, ap, subst, ℕ, Bool, true, false, cond, ◌&&◌, not, List, [], ◌∷◌, ◌++◌}
+use Rattle.std.specs.Prelude.{None}
 use Rattle.prettyless.specs.Tree.{Tree}
 use Rattle.prettyless_model.specs.declared.mode.Mode.{Mode}
 use Rattle.prettyless_model.specs.declared.mode.Mode.TheVariants.{Break, Flat}
 use Rattle.toml_lexemes.specs.Bytes as byte
 use Rattle.toml_grammar.specs.Sorts as sort
 use Rattle.toml_grammar.specs.Sorts.{Sort, sort_of}
-use Rattle.toml_formatter.specs.Documents.{Commented, Draft, End, Level, Part, RowEntry, after_part, after_rest, broken_if, closed_end, comma_kept}
-use Rattle.toml_formatter.specs.Documents.{document_from, ends_item, is_array, is_some, levels_after, list_tree, new_level, new_statement, part_end, indent_in}
+use Rattle.toml_formatter.specs.Documents.{Commented, Draft, End, Level, RowEntry, after_part, after_rest, closed_end, comma_kept}
+use Rattle.toml_formatter.specs.Documents.{document_from, ends_item, is_array, is_some, list_tree, new_level, new_statement, part_end}
+use Rattle.toml_formatter.specs.Documents.{indent_in}
 use Rattle.toml_formatter.specs.Documents.{trailed_end, with_part}
 use Rattle.toml_formatter.specs.Gaps.{gap_before_close}
 use Rattle.toml_formatter.specs.Kinds.{kind_in}
 use Rattle.toml_formatter.specs.Lines.{may_hold}
 use Rattle.toml_formatter.specs.Numbers.{is_among_numbers, kind_before, only_number_words, opened_kind}
-use Rattle.toml_formatter.specs.ReadAgain.{lexemes_then}
-use Rattle.toml_formatter.specs.Spellings.{Bit, text_of, word_bits}
-use Rattle.toml_formatter.specs.TreesAgain.{Again, first_mode, later_modes}
+use Rattle.toml_formatter.proofs.ReadTexts.{lexemes_then}
+use Rattle.toml_formatter.specs.Spellings.{Bit, word_bits}
+use Rattle.toml_formatter.proofs.Again.{Again, first_mode, later_modes}
 use Rattle.toml_formatter.specs.declared.gaps.Gap.{Gap}
 use Rattle.toml_formatter.specs.declared.kind.Kind.{Kind}
 use Rattle.toml_formatter.specs.declared.kind.Kind.TheVariants.{Statement, Header, Table, Array, Numbers}
@@ -26,10 +26,12 @@ use Rattle.toml_formatter.specs.declared.kind.Last.TheVariants as last
 use Rattle.toml_formatter.specs.declared.style.Style.{Style}
 use Rattle.toml_formatter.proofs.TreesAgain.{after_gap, again_bracketed, again_flat_bracketed, again_flat_trailed, again_trailed, bracketed}
 use Rattle.toml_formatter.proofs.TreesAgain.{bracketed_bits, gap_bits}
-use Rattle.toml_formatter.proofs.ReadSteps.{Counts, counts_text, IsAround, IsFirst, IsLexeme, Leads, Place, Seam, counts_both, counts_seam, from_text, gap_seam}
-use Rattle.toml_formatter.proofs.ReadSteps.{inside, leads_both, leads_seam, level_of, parted, read_both, read_text, seam_bits, seam_of, stacked, started}
-use Rattle.toml_formatter.proofs.ReadRows.{AreComments, BodyReads, CommaRead, EntryRead, IsAlike, PartRead, PartReads, TakesComma, body_with_rest}
-use Rattle.toml_formatter.proofs.ReadRows.{comma_leads, counts_comma, rest_last, row}
+use Rattle.toml_formatter.proofs.ReadSteps.{Counts, counts_text, IsAround, IsFirst, IsLexeme, Leads, counts_both, counts_seam, from_text}
+use Rattle.toml_formatter.proofs.ReadSteps.{gap_seam}
+use Rattle.toml_formatter.proofs.ReadSteps.{inside, leads_both, leads_seam, level_of, parted, read_both, seam_bits, seam_of, stacked}
+use Rattle.toml_formatter.proofs.ReadSteps.{started}
+use Rattle.toml_formatter.proofs.ReadRows.{AreComments, BodyReads, CommaRead, EntryRead, PartReads, TakesComma, body_with_rest}
+use Rattle.toml_formatter.proofs.ReadRows.{comma_leads, rest_last, row}
 
 -- ---- what is in brackets
 
@@ -63,7 +65,7 @@ closed_is : (kind : Kind) (comma k b : Bool) (cs : List Commented) (e : End) →
 closed_is kind comma k b cs e h g =
     ap
     (λ (j : Bool).
-        trailed_end (is_array kind && ends_item (after_rest kind (row None j cs) e).last) comma (after_rest kind (row None j cs) e)) h
+    trailed_end (is_array kind && ends_item (after_rest kind (row None j cs) e).last) comma (after_rest kind (row None j cs) e)) h
     ∙ ap (λ (c : Bool). trailed_end c comma (after_rest kind (row None k cs) e)) g
 
 trailed_last : (b comma : Bool) (e : End) → (trailed_end b comma e).last ≡ e.last
@@ -182,7 +184,8 @@ module _ (style : Style) (kind : Kind) (opening : List ℕ) where
       let y = after_part kind r.before r.part in
       let holds : may_hold y.last ≡ false = ap may_hold r.last ∙ item_holds e.last (and_right (is_array kind) (ends_item e.last) ends) in
       let same : closed_of kind false [] y ≡ trailed_end true false y =
-      closed_is kind false false true [] y (unkept kind y.last false holds) (ap (λ (l : Last). is_array kind && ends_item l) r.last ∙ ends) in
+      closed_is kind false false true [] y (unkept kind y.last false holds)
+      (ap (λ (l : Last). is_array kind && ends_item l) r.last ∙ ends) in
       let z = trailed_end true comma e in
       record {
         before = r.before;
@@ -306,7 +309,8 @@ abbrev pub outer_modes : Gap → Mode → List Mode → List Mode → List Mode
 outer_modes g Break ms left = after_gap g (first_mode ms) left
 outer_modes g Flat ms left = left
 
-pub again_listed : (n : ℕ) (g : Gap) (s t : List ℕ) (x y : Tree) (m : Mode) (ms left : List Mode) (bits : List Bit) → IsLexeme s → IsLexeme t
+pub again_listed : (n : ℕ) (g : Gap) (s t : List ℕ) (x y : Tree) (m : Mode) (ms left : List Mode) (bits : List Bit) → IsLexeme s
+    → IsLexeme t
     → Again x y (inner_mode m ms) (inner_modes m ms) left bits
     → Again (bracketed n g s x t) (bracketed n g s y t) m ms (outer_modes g m ms left)
     (bracketed_bits g (inner_mode m ms) left s bits t)
@@ -347,7 +351,8 @@ module _ (style : Style) where
   opens_level k true s lv lvs d rest opens (e, g) alone is =
       opens_new k s d rest opens alone is
       ∙ ap (λ (l : Level). document_from style (record d { levels = new_level (opened_kind l.kind true k rest) s ∷ l ∷ [] }) rest) (sym e)
-      ∙ ap (λ (ls : List Level). document_from style (record d { levels = new_level (opened_kind lv.kind true k rest) s ∷ lv ∷ ls }) rest) (sym g)
+      ∙ ap (λ (ls : List Level). document_from style (record d { levels = new_level (opened_kind lv.kind true k rest) s ∷ lv ∷ ls }) rest)
+      (sym g)
   opens_level k false s lv lvs d rest opens f alone is = opens_in k s lv lvs d rest opens alone is
 
   -- and another closes it
@@ -383,8 +388,8 @@ module _ (style : Style) where
         related =
             subst
             (λ (l : Last).
-                Again (list_tree style lv close)
-                (bracketed columns (gap_before_close lv.kind l) lv.opening (closed_end w).tree close) m ms left bits)
+            Again (list_tree style lv close)
+            (bracketed columns (gap_before_close lv.kind l) lv.opening (closed_end w).tree close) m ms left bits)
             (sym r.last)
             (again_listed columns g lv.opening close e.tree (closed_end w).tree m ms r.left r.bits open_alone close_alone r.related);
         counts = λ rest.
@@ -399,7 +404,8 @@ module _ (style : Style) where
             let numbers : only_number_words rest1 ≡ n && closes_numbers j =
             r.counts rest2
             ∙ ap (λ (b : Bool). n && b)
-            (ap only_number_words gap_is ∙ counts_seam seam rest3 ∙ counts_text j close close_alone close_is rest ∙ closes_is j close _ closes) in
+            (ap only_number_words gap_is ∙ counts_seam seam rest3 ∙ counts_text j close close_alone close_is rest
+            ∙ closes_is j close _ closes) in
             let same : opened_kind lv0.kind first k rest1 ≡ lv.kind =
             ap (λ (a : Kind). opened_kind a first k rest1) is_around ∙ kind_before_is (kind_in around first k) rest1
             ∙ ap (kind_with (kind_in around first k)) numbers ∙ sym kind_is in

@@ -1,39 +1,40 @@
 -- Rows of entries that a layout has, where they are read again.
-use Rattle.std.proofs.Common.{◌≡◌, refl, sym, ◌∙◌, ap, subst, ℕ, Bool, true, false, cond, ◌==◌, ◌&&◌, ◌||◌, not, List, [], ◌∷◌, ◌++◌, inl, inr}
+use Rattle.std.proofs.Common.{◌≡◌, refl, sym, ◌∙◌, ap, subst, ℕ, Bool, true, false, ◌==◌, ◌&&◌, not, List, [], ◌∷◌, ◌++◌, inl, inr}
 use Rattle.std.specs.Prelude.{◌⊎◌, Option, Some, None}
 use Rattle.prettyless.specs.Built.{append}
 use Rattle.prettyless.specs.Counted as counted
-use Rattle.prettyless.specs.Tree.{Tree, Nil, TextWithLen, BreakOrFlat}
+use Rattle.prettyless.specs.Tree.{Tree, Nil, TextWithLen}
 use Rattle.prettyless_model.specs.declared.mode.Mode.{Mode}
-use Rattle.prettyless_model.specs.declared.mode.Mode.TheVariants.{Break, Flat}
+use Rattle.prettyless_model.specs.declared.mode.Mode.TheVariants.{Flat}
 use Rattle.toml_lexemes.specs.Bytes as byte
 use Rattle.toml_lexemes.specs.Bytes.{dot, head}
 use Rattle.toml_lexemes.specs.Statements.{trimmed}
 use Rattle.toml_lexemes.proofs.Trimmed.{trimmed_twice}
 use Rattle.toml_grammar.specs.Sorts as sort
 use Rattle.toml_grammar.specs.Sorts.{Sort, sort_of}
-use Rattle.toml_formatter.specs.Documents.{Commented, End, Level, Part, RowEntry, after_comments, after_part, after_rest, broken_if}
-use Rattle.toml_formatter.specs.Documents.{closed_end, comma_kept, comment_tree, comments_tree, document_from, end_after_comma, ends_item, entry_with_comma}
-use Rattle.toml_formatter.specs.Documents.{is_array, is_some, level_end, level_with_comma, new_level, new_statement, part_end, separated, trailed_end}
+use Rattle.toml_formatter.specs.Documents.{Commented, End, Level, Part, RowEntry, after_comments, after_part, after_rest}
+use Rattle.toml_formatter.specs.Documents.{comments_tree, document_from, end_after_comma, entry_with_comma}
+use Rattle.toml_formatter.specs.Documents.{is_some, level_end, new_statement, separated}
 use Rattle.toml_formatter.specs.Documents.{with_part}
 use Rattle.toml_formatter.specs.Gaps.{is_last_comment, gap_before_comma, gap_before_comment, gap_before_part, gap_before_text}
 use Rattle.toml_formatter.specs.Kinds.{last_after_text}
 use Rattle.toml_formatter.specs.Lines.{may_hold}
-use Rattle.toml_formatter.specs.ReadAgain.{lexeme_then, lexemes_then}
-use Rattle.toml_formatter.specs.Spellings.{Bit, end_of_line, text_of, word_bits}
-use Rattle.toml_formatter.specs.TreesAgain.{Again}
+use Rattle.toml_formatter.specs.Spellings.{Bit, word_bits}
+use Rattle.toml_formatter.proofs.Again.{Again}
 use Rattle.toml_formatter.specs.declared.gaps.Gap.{Gap}
 use Rattle.toml_formatter.specs.declared.gaps.Gap.TheVariants as gap
 use Rattle.toml_formatter.specs.declared.kind.Kind.{Kind}
 use Rattle.toml_formatter.specs.declared.kind.Kind.TheVariants.{Statement}
 use Rattle.toml_formatter.specs.declared.kind.Last.{Last}
-use Rattle.toml_formatter.specs.declared.kind.Last.TheVariants as last
 use Rattle.toml_formatter.specs.declared.style.Style.{Style}
-use Rattle.toml_formatter.proofs.TreesAgain.{after_gap, again_append, again_flat_blank, again_flat_blank_fill, again_same, again_separated, again_text, gap_bits}
+use Rattle.toml_formatter.proofs.TreesAgain.{after_gap, again_append, again_flat_blank, again_flat_blank_fill, again_same}
+use Rattle.toml_formatter.proofs.TreesAgain.{again_separated, again_text, gap_bits}
 use Rattle.toml_formatter.proofs.TreesAgain.{line_bits}
-use Rattle.toml_formatter.proofs.ReadSteps.{Counts, StaysIn, IsAround, IsCalm, IsFirst, IsLexeme, IsSeam, Leads, Place, Regap, Seam, Unblanked, begun}
-use Rattle.toml_formatter.proofs.ReadSteps.{blank_after, broken_after, comma_gap, comment_regap, comment_stays, counts_both, counts_seam, counts_text, doubled, ended, fresh}
-use Rattle.toml_formatter.proofs.ReadSteps.{from_text, gap_seam, inside, is_first, is_seam, leads_both, leads_none, leads_seam, level_of, nothing, on_line}
+use Rattle.toml_formatter.proofs.ReadSteps.{Counts, StaysIn, IsAround, IsCalm, IsFirst, IsLexeme, IsSeam, Leads, Place, Regap, Seam, begun}
+use Rattle.toml_formatter.proofs.ReadSteps.{blank_after, broken_after, comma_gap, comment_regap, comment_stays, counts_both, counts_seam}
+use Rattle.toml_formatter.proofs.ReadSteps.{counts_text, doubled, ended, fresh}
+use Rattle.toml_formatter.proofs.ReadSteps.{from_text, gap_seam, inside, is_first, is_seam, leads_both, leads_none, leads_seam, level_of}
+use Rattle.toml_formatter.proofs.ReadSteps.{nothing, on_line}
 use Rattle.toml_formatter.proofs.ReadSteps.{part_regap, part_stays, parted, seam_bits, seam_of, spaced, stacked, started}
 
 -- ---- what is read
@@ -45,7 +46,8 @@ pub record IsAlike (word s : List ℕ) : Type 0 where
   pub last : last_after_text word ≡ last_after_text s
 
 -- A part that begins with the lexeme s, where it is laid in a mode and its groups in others: it is read as a part again.
-pub record PartRead (style : Style) (around : Kind) (first number : Bool) (s : List ℕ) (tree : Tree) (m : Mode) (ms : List Mode) : Type 0 where
+pub record PartRead (style : Style) (around : Kind) (first number : Bool) (s : List ℕ) (tree : Tree) (m : Mode)
+    (ms : List Mode) : Type 0 where
   pub word : List ℕ
   pub again : Tree
   pub left : List Mode
@@ -196,7 +198,8 @@ module _ (style : Style) (kind : Kind) (opening : List ℕ) where
   unparted before entry ended h = absurd (cc)
   unparted before entry doubled h = absurd (cc)
 
-  first_parted : (place : Place) (before : End) (entry : RowEntry) (s : Seam) (k : Kind) (l : Last) (j : Sort) (dotted blank : Bool) (m : Mode)
+  first_parted : (place : Place) (before : End) (entry : RowEntry) (s : Seam) (k : Kind) (l : Last) (j : Sort) (dotted blank : Bool)
+      (m : Mode)
       (lvs : List Level) → IsCalm place k l → IsSeam (gap_before_part k l j dotted blank) m s
       → IsNew place (level_of kind opening before entry) → IsAround place lvs
       → IsFirst (is_first place) (parted s (level_of kind opening before entry)) lvs
@@ -233,7 +236,8 @@ module _ (style : Style) (kind : Kind) (opening : List ℕ) where
             again_regapped e.tree (level_end lv).tree tree p.again g h m regap ms r.left p.left r.bits p.bits r.related p.related;
         counts =
             subst (λ (b : List Bit). Counts (n && k) (r.bits ++ (b ++ p.bits))) (sym (gap_seam g m r.left))
-            (counts_both n k r.bits (seam_bits seam ++ p.bits) r.counts (counts_both true k (seam_bits seam) p.bits (counts_seam seam) p.counts));
+            (counts_both n k r.bits (seam_bits seam ++ p.bits) r.counts
+            (counts_both true k (seam_bits seam) p.bits (counts_seam seam) p.counts));
         new = new_begun place _;
         leads = λ lvs outside.
             let around = around_begun place lvs outside in
@@ -243,7 +247,8 @@ module _ (style : Style) (kind : Kind) (opening : List ℕ) where
             (sym (gap_seam g m r.left))
             (leads_both style (started place kind opening lvs) (stacked (is_first place) lv lvs) (after ∷ lvs) r.bits
             (seam_bits seam ++ p.bits) (r.leads lvs around)
-            (leads_both style (stacked (is_first place) lv lvs) (stacked (is_first place) (parted seam lv) lvs) (after ∷ lvs) (seam_bits seam)
+            (leads_both style (stacked (is_first place) lv lvs) (stacked (is_first place) (parted seam lv) lvs) (after ∷ lvs)
+            (seam_bits seam)
             p.bits
             (leads_seam style kind opening r.before r.entry place seam lvs around
             (part_stays place kind e.last (sort_of s) (head s == dot) blank m seam calm is))
@@ -263,7 +268,8 @@ module _ (style : Style) (kind : Kind) (opening : List ℕ) where
   comma_leads before part lvs h d rest =
       from_text style sort.comma (record d { levels = level_of kind opening before (row part false []) ∷ lvs }) (byte.comma ∷ []) rest
       (λ ss. refl) refl
-      ∙ ap (λ (b : Bool). document_from style (record d { levels = entry_with_comma b (level_of kind opening before (row part false [])) ∷ lvs }) rest) h
+      ∙ ap (λ (b : Bool). document_from style
+      (record d { levels = entry_with_comma b (level_of kind opening before (row part false [])) ∷ lvs }) rest) h
 
   comma_stacked : (place : Place) (before : End) (part : Option Part) (lvs : List Level) → is_first place ≡ false
       → may_hold (after_part kind before part).last ≡ false
@@ -310,13 +316,13 @@ module _ (style : Style) (kind : Kind) (opening : List ℕ) where
         related =
             subst
             (λ (l : Last).
-                Again (separated (gap_before_comma e.last) e.tree (counted.text comma))
-                (separated (gap_before_comma l) y.tree (counted.text comma)) m ms ns (r.bits ++ word_bits comma))
+            Again (separated (gap_before_comma e.last) e.tree (counted.text comma))
+            (separated (gap_before_comma l) y.tree (counted.text comma)) m ms ns (r.bits ++ word_bits comma))
             (sym r.last)
             (subst
             (λ (b : List Bit).
-                Again (separated (gap_before_comma e.last) e.tree (counted.text comma))
-                (separated (gap_before_comma e.last) y.tree (counted.text comma)) m ms ns (r.bits ++ (b ++ word_bits comma)))
+            Again (separated (gap_before_comma e.last) e.tree (counted.text comma))
+            (separated (gap_before_comma e.last) y.tree (counted.text comma)) m ms ns (r.bits ++ (b ++ word_bits comma)))
             gap_is
             (again_separated (gap_before_comma e.last) e.tree y.tree (counted.text comma) (counted.text comma) m ms r.left ns r.bits
             (word_bits comma) r.related (again_text comma m ns)));
@@ -327,7 +333,8 @@ module _ (style : Style) (kind : Kind) (opening : List ℕ) where
         leads = λ lvs around.
             leads_both style (started place kind opening lvs)
             (stacked (is_first place) (level_of kind opening r.before (row r.part false [])) lvs)
-            (stacked (is_first place) (level_of kind opening r.before (row r.part true [])) lvs) r.bits (word_bits comma) (r.leads lvs around)
+            (stacked (is_first place) (level_of kind opening r.before (row r.part true [])) lvs) r.bits (word_bits comma)
+            (r.leads lvs around)
             (comma_stacked place r.before r.part lvs takes.0 held);
       }
 
@@ -346,7 +353,8 @@ module _ (style : Style) (kind : Kind) (opening : List ℕ) where
         → Leads style (stacked (is_first place) (level_of kind opening before (row part comma [])) lvs) bits
         (stacked (is_first place) (level_of kind opening before (row part comma again)) lvs)
 
-  comments_stay : (place : Place) (l : Last) (r : Commented) (rs : List Commented) (m : Mode) (s : Seam) → TakesComments kind place l (r ∷ rs)
+  comments_stay : (place : Place) (l : Last) (r : Commented) (rs : List Commented) (m : Mode) (s : Seam)
+      → TakesComments kind place l (r ∷ rs)
       → IsSeam (gap_before_comment kind l (is_some rs) r.broken r.blank) m s → StaysIn place s
   comments_stay inside l r rs m s takes e = tt
   comments_stay on_line l r rs m s (none, e, h) is =
@@ -354,7 +362,8 @@ module _ (style : Style) (kind : Kind) (opening : List ℕ) where
       (subst (λ (cs : List Commented). IsSeam (gap_before_comment kind l (is_some cs) r.broken r.blank) m s) none is)
   comments_stay fresh l r rs m s takes e = absurd (cc)
 
-  takes_before : (place : Place) (l : Last) (r : Commented) (rs : List Commented) → TakesComments kind place l (r ∷ rs) → TakesComments kind place l rs
+  takes_before : (place : Place) (l : Last) (r : Commented) (rs : List Commented) → TakesComments kind place l (r ∷ rs)
+      → TakesComments kind place l rs
   takes_before inside l r rs h = tt
   takes_before on_line l r rs h = subst (TakesComments kind on_line l) (sym h.0) tt
   takes_before fresh l r rs h = absurd (cc)
@@ -370,7 +379,8 @@ module _ (style : Style) (kind : Kind) (opening : List ℕ) where
 
   comment_stacked : (place : Place) (l : Last) (before : End) (part : Option Part) (comma : Bool) (r : Commented) (rs cs : List Commented)
       (seam : Seam) (lvs : List Level) → TakesComments kind place l (r ∷ rs) → IsComment r.comment
-      → Leads style (stacked (is_first place) (parted seam (level_of kind opening before (row part comma cs))) lvs) (word_bits (trimmed r.comment))
+      → Leads style (stacked (is_first place) (parted seam (level_of kind opening before (row part comma cs))) lvs)
+      (word_bits (trimmed r.comment))
       (stacked (is_first place) (level_of kind opening before
       (row part comma (record { broken = broken_after seam; blank = blank_after seam; comment = trimmed r.comment } ∷ cs))) lvs)
   comment_stacked inside l before part comma r rs cs seam lvs takes is = comment_leads before part comma cs seam r.comment lvs is
@@ -413,15 +423,17 @@ module _ (style : Style) (kind : Kind) (opening : List ℕ) where
         related =
             subst
             (λ (a : Gap).
-                Again (separated g (comments_tree kind l rs) (TextWithLen 0 t))
-                (separated a (comments_tree kind l i.again) (TextWithLen 0 (trimmed t))) m ms ns (i.bits ++ (gap_bits g m i.left ++ word_bits t)))
+            Again (separated g (comments_tree kind l rs) (TextWithLen 0 t))
+            (separated a (comments_tree kind l i.again) (TextWithLen 0 (trimmed t))) m ms ns
+            (i.bits ++ (gap_bits g m i.left ++ word_bits t)))
             (sym same)
             (subst
             (λ (u : List ℕ).
-                Again (separated g (comments_tree kind l rs) (TextWithLen 0 t))
-                (separated g (comments_tree kind l i.again) (TextWithLen 0 u)) m ms ns (i.bits ++ (gap_bits g m i.left ++ word_bits t)))
+            Again (separated g (comments_tree kind l rs) (TextWithLen 0 t))
+            (separated g (comments_tree kind l i.again) (TextWithLen 0 u)) m ms ns (i.bits ++ (gap_bits g m i.left ++ word_bits t)))
             (sym (trimmed_twice r.comment))
-            (again_separated g (comments_tree kind l rs) (comments_tree kind l i.again) (TextWithLen 0 t) (TextWithLen 0 t) m ms i.left ns i.bits
+            (again_separated g (comments_tree kind l rs) (comments_tree kind l i.again) (TextWithLen 0 t)
+            (TextWithLen 0 t) m ms i.left ns i.bits
             (word_bits t) i.related (again_same (TextWithLen 0 t) m ns)));
         counts =
             subst (λ (b : Bool). Counts b (i.bits ++ (gap_bits g m i.left ++ word_bits t))) (and_false (not (is_some rs)))
@@ -432,11 +444,13 @@ module _ (style : Style) (kind : Kind) (opening : List ℕ) where
             let old = stacked (is_first place) (level_of kind opening before (row part comma [])) lvs in
             subst (λ (b : List Bit). Leads style old (i.bits ++ (b ++ word_bits t)) (stacked (is_first place) new lvs))
             (sym (gap_seam g m i.left))
-            (leads_both style old (stacked (is_first place) lv lvs) (stacked (is_first place) new lvs) i.bits (seam_bits seam ++ word_bits t)
+            (leads_both style old (stacked (is_first place) lv lvs) (stacked (is_first place) new lvs) i.bits
+            (seam_bits seam ++ word_bits t)
             (i.leads lvs around)
             (leads_both style (stacked (is_first place) lv lvs) (stacked (is_first place) (parted seam lv) lvs)
             (stacked (is_first place) new lvs) (seam_bits seam) (word_bits t)
-            (leads_seam style kind opening before (row part comma i.again) place seam lvs around (comments_stay place l r rs m seam takes is))
+            (leads_seam style kind opening before (row part comma i.again) place seam lvs around
+            (comments_stay place l r rs m seam takes is))
             (comment_stacked place l before part comma r rs i.again seam lvs takes are.0)));
       }
 
@@ -485,18 +499,19 @@ module _ (style : Style) (kind : Kind) (opening : List ℕ) where
         related =
             subst
             (λ (b : Bool).
-                Again (append x.tree (comments_tree kind e.last (c ∷ cs)))
-                (after_comments b (comments_tree kind (after_part kind r.before r.part).last i.again) y).tree m ms i.left (r.bits ++ i.bits))
+            Again (append x.tree (comments_tree kind e.last (c ∷ cs)))
+            (after_comments b (comments_tree kind (after_part kind r.before r.part).last i.again) y).tree m ms i.left (r.bits ++ i.bits))
             (sym i.some)
             (subst
             (λ (l : Last).
-                Again (append x.tree (comments_tree kind e.last (c ∷ cs))) (append y.tree (comments_tree kind l i.again)) m ms i.left
-                (r.bits ++ i.bits))
+            Again (append x.tree (comments_tree kind e.last (c ∷ cs))) (append y.tree (comments_tree kind l i.again)) m ms i.left
+            (r.bits ++ i.bits))
             (sym r.last) both);
         counts = counts_both n false r.bits i.bits r.counts i.counts;
         new = new_comments place e.last r.before r.part comma c cs i.again may;
         leads = λ lvs around.
-            leads_both style (started place kind opening lvs) (stacked (is_first place) (level_of kind opening r.before (row r.part comma [])) lvs)
+            leads_both style (started place kind opening lvs)
+            (stacked (is_first place) (level_of kind opening r.before (row r.part comma [])) lvs)
             (stacked (is_first place) (level_of kind opening r.before (row r.part comma i.again)) lvs) r.bits i.bits (r.leads lvs around)
             (i.leads lvs around);
       }

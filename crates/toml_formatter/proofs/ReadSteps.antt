@@ -1,6 +1,6 @@
 -- How the lexemes of a layout are read, a text and a gap at a time.
-use Rattle.std.proofs.Common.{◌≡◌, refl, sym, ◌∙◌, ap, subst, ℕ, Bool, true, false, cond, ◌==◌, ◌&&◌, ◌||◌, not, List, [], ◌∷◌, ◌++◌, inl, inr}
-use Rattle.std.specs.Prelude.{◌⊎◌, Option, Some, None}
+use Rattle.std.proofs.Common.{◌≡◌, refl, sym, ◌∙◌, ap, subst, ℕ, Bool, true, false, cond, ◌&&◌, List, [], ◌∷◌, ◌++◌, inl, inr}
+use Rattle.std.specs.Prelude.{◌⊎◌}
 use Rattle.toml_lexemes.specs.Bytes as byte
 use Rattle.toml_lexemes.specs.Bytes.{dot, head}
 use Rattle.toml_grammar.specs.Sorts as sort
@@ -10,10 +10,10 @@ use Rattle.prettyless_model.specs.declared.mode.Mode.TheVariants.{Break, Flat}
 use Rattle.toml_formatter.specs.Documents.{Level, Draft, End, RowEntry, document_from, draft_with, new_level, new_statement}
 use Rattle.toml_formatter.specs.Gaps.{gap_after_comma, gap_before_comma, gap_before_comment, gap_before_first_comment, gap_before_part}
 use Rattle.toml_formatter.specs.Gaps.{gap_on_line, is_last_comment, line_break, stays}
-use Rattle.toml_formatter.specs.GapsAgain.{breaks_before, leaves_blank}
+use Rattle.toml_formatter.proofs.GapFlags.{breaks_before, leaves_blank}
 use Rattle.toml_formatter.specs.Lines.{may_hold}
 use Rattle.toml_formatter.specs.Numbers.{is_among_numbers, only_number_words}
-use Rattle.toml_formatter.specs.ReadAgain.{lexeme_then, lexemes_then}
+use Rattle.toml_formatter.proofs.ReadTexts.{lexeme_then, lexemes_then}
 use Rattle.toml_formatter.specs.Spellings.{Bit, end_of_line, text_of, word_bits}
 use Rattle.toml_formatter.specs.declared.gaps.Gap.{Gap}
 use Rattle.toml_formatter.specs.declared.gaps.Gap.TheVariants as gap
@@ -24,7 +24,7 @@ use Rattle.toml_formatter.specs.declared.kind.Last.TheVariants.{Start, Close, Eq
 use Rattle.toml_formatter.specs.declared.style.Style.{Style}
 use Rattle.toml_formatter.proofs.GapsAgain.{comment_again}
 use Rattle.toml_formatter.proofs.TreesAgain.{gap_bits, line_bits}
-use Rattle.toml_formatter.specs.TreesAgain.{first_mode}
+use Rattle.toml_formatter.proofs.Again.{first_mode}
 
 -- ---- what is between two texts
 

@@ -121,29 +121,29 @@ start_no_value table n e h = subst IsAfter e h
 start_no_value array n e h = subst IsAfter e h
 
 -- after a value stands what may be followed on the same line
-pub value_on_line : (c : Context) (l : Last) (n : Next) → Fits c l n → IsAfter n → IsOnLine l
-value_on_line c last.Start n h k = absurd (start_no_value c n h k)
-value_on_line c last.Close n h k = tt
-value_on_line c last.Word n h k = tt
-value_on_line c last.Dot n h k = tt
-value_on_line c last.String n h k = tt
-value_on_line statement last.Equals n h k = subst IsAfter h k
-value_on_line table last.Equals n h k = subst IsAfter h k
-value_on_line header last.Equals n h k = h
-value_on_line headers last.Equals n h k = h
-value_on_line array last.Equals n h k = h
-value_on_line statement last.Comma n h k = h
-value_on_line header last.Comma n h k = h
-value_on_line headers last.Comma n h k = h
-value_on_line table last.Comma n (inl h) k = h
-value_on_line table last.Comma n (inr h) k = h
-value_on_line array last.Comma n h k = h
-value_on_line statement last.Comment n h k = subst IsAfter h k
-value_on_line header last.Comment n h k = h
-value_on_line headers last.Comment n h k = h
-value_on_line table last.Comment n (inl h) k = h
-value_on_line table last.Comment n (inr h) k = h
-value_on_line array last.Comment n h k = h
+pub value_is_on_line : (c : Context) (l : Last) (n : Next) → Fits c l n → IsAfter n → IsOnLine l
+value_is_on_line c last.Start n h k = absurd (start_no_value c n h k)
+value_is_on_line c last.Close n h k = tt
+value_is_on_line c last.Word n h k = tt
+value_is_on_line c last.Dot n h k = tt
+value_is_on_line c last.String n h k = tt
+value_is_on_line statement last.Equals n h k = subst IsAfter h k
+value_is_on_line table last.Equals n h k = subst IsAfter h k
+value_is_on_line header last.Equals n h k = h
+value_is_on_line headers last.Equals n h k = h
+value_is_on_line array last.Equals n h k = h
+value_is_on_line statement last.Comma n h k = h
+value_is_on_line header last.Comma n h k = h
+value_is_on_line headers last.Comma n h k = h
+value_is_on_line table last.Comma n (inl h) k = h
+value_is_on_line table last.Comma n (inr h) k = h
+value_is_on_line array last.Comma n h k = h
+value_is_on_line statement last.Comment n h k = subst IsAfter h k
+value_is_on_line header last.Comment n h k = h
+value_is_on_line headers last.Comment n h k = h
+value_is_on_line table last.Comment n (inl h) k = h
+value_is_on_line table last.Comment n (inr h) k = h
+value_is_on_line array last.Comment n h k = h
 
 pub value_covers : (m n : Next) → Covers m n → IsAfter n → IsAfter m
 value_covers m n (inl e) h = subst IsAfter (sym e) h
@@ -219,7 +219,7 @@ comma_reaches c a e bs p q w h f false is = record {
 }
 comma_reaches c a e bs p q w h f true (value, to) = record {
   leads =
-      let on = value_on_line c e.last p f value in
+      let on = value_is_on_line c e.last p f value in
       leads_separated a e.tree (counted.text (byte.comma ∷ [])) (IsAt (touch_at c e.last) bs p) (Ready (44 ∷ []) (reading bs q))
       (IsAt (after sign) bs q) h
       (λ b r. leads_text b (place (after sign) (reading bs q)) (44 ∷ []) (IsAt (after sign) bs q)
@@ -305,7 +305,7 @@ pub ended_twice : (m : Next) → ended (ended m) ≡ ended m
 ended_twice next.AfterDate = refl
 ended_twice m = refl
 
-array_ended : (m : Next) → IsArrayNext m → IsArrayNext (ended m)
+pub array_ended : (m : Next) → IsArrayNext m → IsArrayNext (ended m)
 array_ended next.Member h = tt
 array_ended next.After h = tt
 array_ended next.AfterDate h = tt
@@ -417,7 +417,7 @@ array_next_of next.After h = tt
 array_next_of next.AfterDate h = tt
 array_next_of q h = absurd h
 
-array_next_covers : (m q : Next) → Covers m q → IsArrayNext q → IsArrayNext m
+pub array_next_covers : (m q : Next) → Covers m q → IsArrayNext q → IsArrayNext m
 array_next_covers m q (inl e) h = subst IsArrayNext (sym e) h
 array_next_covers m q (inr (d, a)) h = subst IsArrayNext (sym d) tt
 
@@ -548,7 +548,7 @@ rest_reaches array a kind of e bs p q n w h f comma has (r ∷ rs) (is, may, man
 rest_reaches statement a Statement of e bs p q n w h f true has (r ∷ rs) (is, may, many, texts) = absurd (none_in bs q w has.1)
 rest_reaches statement a Statement of e bs p q n w h f false has (r ∷ rs) (is, may, many, texts) =
     let value = value_of q may in
-    let on = value_on_line statement e.last p f (subst IsAfter has value) in
+    let on = value_is_on_line statement e.last p f (subst IsAfter has value) in
     commented_reaches statement a e bs q n (comments_tree Statement e.last (r ∷ rs)) is (statement_fits_comment q n may is)
     (comma_reaches statement a e bs p q w h f false has)
     (λ b at. subst (λ (l : List Commented). Leads b (comments_tree Statement e.last (r ∷ l))

@@ -1,6 +1,6 @@
 -- How a document that is laid again is put together.
-pub use Rattle.toml_formatter.specs.TreesAgainLaws.{after_gap, blank_bits, bracketed, bracketed_bits, edge_bits, gap_bits, line_bits}
-pub use Rattle.toml_formatter.specs.TreesAgainLaws.{optional_comma, with_optional_comma}
+pub use Rattle.toml_formatter.proofs.AgainLaws.{after_gap, blank_bits, bracketed, bracketed_bits, edge_bits, gap_bits, line_bits}
+pub use Rattle.toml_formatter.proofs.AgainLaws.{optional_comma, with_optional_comma}
 pub use Rattle.toml_formatter.proofs.NodesAgain.{again_append, again_flat_group, again_group, again_nest, again_same}
 pub use Rattle.toml_formatter.proofs.SeparatedAgain.{again_broken, again_lexeme, again_separated, again_text}
 pub use Rattle.toml_formatter.proofs.ChangedAgain.{again_flat_blank, again_flat_blank_fill, again_flat_trailed, again_trailed}

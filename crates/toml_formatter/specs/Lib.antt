@@ -2,12 +2,10 @@ pub mod Errors
 pub mod Depths
 pub mod Formats
 pub mod Gaps
-pub mod GapsAgain
 pub mod Kinds
 pub mod Numbers
 pub mod Lexing
 pub mod Lines
-pub mod ListsAgain
 pub mod Ahead
 pub mod Alignment
 pub mod AlignmentLaws
@@ -17,7 +15,4 @@ pub mod Walks
 pub mod Sheets
 pub mod Spellings
 pub mod Presses
-pub mod TreesAgain
-pub mod ReadAgain
-pub mod TreesAgainLaws
 pub mod LaidLaws

@@ -1,12 +1,6 @@
-ghost use Rattle.toml_formatter.specs.GapsAgain.{CommentGapsAreReadAgain, FlatBlanksAreUnseen, TextGapsAreReadAgain};
 ghost use Rattle.toml_formatter.specs.AlignmentLaws.{AlignedCommentsStay, AlignedDocumentsStay, AlignedLexemesStay, AlignedTextsAreToml};
 ghost use Rattle.toml_formatter.specs.LaidLaws.{LayoutsAreLaidAgain, LayoutsAreToml};
-ghost use Rattle.toml_formatter.specs.ListsAgain.{NumbersAreSeenAgain, TrailedListsAreBroken, TrailingCommasAreUnseen};
 ghost use Rattle.toml_formatter.specs.Spellings.{LayoutsAreSpelledOut};
-ghost use Rattle.toml_formatter.specs.declared.gaps.Gap.TheVariants.{Fill, Line};
-ghost use Rattle.toml_formatter.specs.TreesAgainLaws.{AppendedDocumentsStay, BracketedDocumentsStay, BrokenListsAreTrailed, DocumentsStay};
-ghost use Rattle.toml_formatter.specs.TreesAgainLaws.{FlatBlankLinesGo, FlatBracketsStay, FlatListsAreNot, LayoutsAreWrittenByModes};
-ghost use Rattle.toml_formatter.specs.TreesAgainLaws.{LayoutsStay, LinesStay, SeparatedDocumentsStay, WordsAreJoined};
 
 /// Comments that are aligned change no lexeme of their text, which is still TOML where it was, and has the same document, so it is
 /// laid out alike. Aligned again they stay.
@@ -35,39 +29,4 @@ pub fn law_toml()
 /// or not.
 pub fn law_again()
     ensures { LayoutsAreLaidAgain }
-{}
-
-/// The gap before a lexeme of a layout is the one that is laid out where the layout is read: a line end and a blank line in it lead to
-/// the same gap. On a flat line a probe sees no blank lines.
-fn law_gaps_again()
-    ensures comments { CommentGapsAreReadAgain }
-    ensures texts { TextGapsAreReadAgain }
-    ensures flat { FlatBlanksAreUnseen }
-{}
-
-/// A list of a layout is one of numbers where it was. One with a comma after its last item is broken where the layout is laid out,
-/// as it was, and a probe that reads it broken sees nothing else.
-fn law_lists_again()
-    ensures numbers { NumbersAreSeenAgain }
-    ensures broken { TrailedListsAreBroken }
-    ensures unseen { TrailingCommasAreUnseen }
-{}
-
-/// A document that is laid again is another in little: on a flat line it has no blank lines, a list that was broken has a comma
-/// after its last item, and words side by side are one. It has the layout that the first had, which is written as that document is
-/// spelled in the modes of its groups. Such documents are put together of parts, gaps, lists and lines that are laid again.
-fn law_trees_again()
-    ensures layouts { LayoutsStay }
-    ensures written { LayoutsAreWrittenByModes }
-    ensures same { DocumentsStay }
-    ensures appended { AppendedDocumentsStay }
-    ensures separated { SeparatedDocumentsStay }
-    ensures blanks { FlatBlankLinesGo Line }
-    ensures filled { FlatBlankLinesGo Fill }
-    ensures commas { BrokenListsAreTrailed }
-    ensures flat_commas { FlatListsAreNot }
-    ensures lists { BracketedDocumentsStay }
-    ensures flat_lists { FlatBracketsStay }
-    ensures words { WordsAreJoined }
-    ensures lines { LinesStay }
 {}

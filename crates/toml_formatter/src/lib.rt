@@ -1,4 +1,4 @@
-//! A formatter of TOML texts. A text and its layout have the same statements.
+//! A formatter of TOML texts. The layout of a TOML text is TOML, and has the same statements.
 #![tactic(auto)]
 
 mod ahead;

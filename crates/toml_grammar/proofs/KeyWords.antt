@@ -1,5 +1,6 @@
 -- What the words of keys are: bare letters and dots, where one without a part due begins with a dot, and a part is due after a dot.
-use Rattle.std.proofs.Common.{◌≡◌, refl, sym, ◌∙◌, ap, subst, arith, ℕ, suc, ◌-◌, Bool, true, false, cond, ◌==◌, ◌&&◌, ◌||◌, List, [], ◌∷◌, length, get_or}
+use Rattle.std.proofs.Common.{◌≡◌, refl, sym, ◌∙◌, ap, subst, arith, ℕ, suc, ◌-◌, Bool, true, false, cond, ◌==◌, ◌&&◌, ◌||◌, List, []}
+use Rattle.std.proofs.Common.{◌∷◌, length, get_or}
 use Rattle.std.proofs.lemmas.Bool.{eqb-true, true≢false}
 use Rattle.std.specs.List.{fold, list_all}
 use Rattle.std.specs.Prelude.{Option, Some, None}
@@ -20,7 +21,8 @@ wrong_stays (x ∷ t) = wrong_stays t
 no_due : (s : List ℕ) (after : Bool) → part_due (fold key_next place.Wrong s) ≡ Some after → ⊥
 no_due s after h = let none : None ≡ Some after = sym (ap part_due (wrong_stays s)) ∙ h in cc
 
-due_byte : (b c : Bool) (s : List ℕ) (after : Bool) → part_due (fold key_next (cond b place.Inside place.Wrong) s) ≡ Some after → b || c ≡ true
+due_byte : (b c : Bool) (s : List ℕ) (after : Bool) → part_due (fold key_next (cond b place.Inside place.Wrong) s) ≡ Some after
+    → b || c ≡ true
 due_byte true c s after h = refl
 due_byte false c s after h = absurd (no_due s after h)
 
@@ -30,7 +32,8 @@ inside_byte true c s after h = refl
 inside_byte false true s after h = refl
 inside_byte false false s after h = absurd (no_due s after h)
 
-after_byte : (b c : Bool) (s : List ℕ) (after : Bool) → part_due (fold key_next (cond c place.Due place.Wrong) s) ≡ Some after → b || c ≡ true
+after_byte : (b c : Bool) (s : List ℕ) (after : Bool) → part_due (fold key_next (cond c place.Due place.Wrong) s) ≡ Some after
+    → b || c ≡ true
 after_byte true c s after h = refl
 after_byte false true s after h = refl
 after_byte false false s after h = absurd (no_due s after h)
@@ -71,13 +74,15 @@ one_end place.Inside x after h = inside_end (is_bare x) (x == dot) after h
 one_end place.After x after h = after_end (x == dot) after h
 one_end place.Wrong x after h = absurd (cc)
 
-same_end : (x y : ℕ) (ys : List ℕ) → ends_with_dot (x ∷ (y ∷ ys)) ≡ ends_with_dot (y ∷ ys)
+-- a byte before others changes no end
+pub same_end : (x y : ℕ) (ys : List ℕ) → ends_with_dot (x ∷ (y ∷ ys)) ≡ ends_with_dot (y ∷ ys)
 same_end x y ys =
     let longer : suc (suc (length ys)) - 1 ≡ suc (length ys) = omega arith in
     let shorter : suc (length ys) - 1 ≡ length ys = omega arith in
     ap (λ (k : ℕ). get_or (x ∷ (y ∷ ys)) k 32 == 46) longer ∙ sym (ap (λ (k : ℕ). get_or (y ∷ ys) k 32 == 46) shorter)
 
-key_end : (p : KeyPlace) (x : ℕ) (s : List ℕ) (after : Bool) → part_due (fold key_next p (x ∷ s)) ≡ Some after → after ≡ ends_with_dot (x ∷ s)
+key_end : (p : KeyPlace) (x : ℕ) (s : List ℕ) (after : Bool) → part_due (fold key_next p (x ∷ s)) ≡ Some after
+    → after ≡ ends_with_dot (x ∷ s)
 key_end p x [] after h = one_end p x after h
 key_end p x (y ∷ s) after h = key_end (key_next p x) y s after h ∙ sym (same_end x y s)
 

@@ -12,7 +12,7 @@ use Rattle.prettyless_model.specs.declared.options.RenderOptions.{RenderOptions}
 use Rattle.toml_lexemes.specs.Bytes as byte
 use Rattle.toml_formatter.specs.Documents.{broken_if, lines_with, separated}
 use Rattle.toml_formatter.specs.Spellings.{AreWritten, Bit, IsExact, end_of_line, text_of, word_bits}
-use Rattle.toml_formatter.specs.TreesAgain.{Again, first_mode, later_modes, layout_modes, modes_after, spelled_in}
+use Rattle.toml_formatter.proofs.Again.{Again, first_mode, later_modes, layout_modes, modes_after, spelled_in}
 use Rattle.toml_formatter.specs.declared.gaps.Gap.{Gap}
 use Rattle.toml_formatter.specs.declared.gaps.Gap.TheVariants as gap
 
