@@ -388,7 +388,7 @@ describe("the package", () => {
 
     test("the examples of its page", async () => {
         const [, ...blocks] = read("README.md").split("```js\n");
-        assert.ok(blocks.length > 2);
+        assert.ok(blocks.length > 1);
         for (const block of blocks) {
             const code = block.split("```")[0].replaceAll('from "yezhgulo"', `from "${new URL("../node.js", import.meta.url)}"`);
             await import(`data:text/javascript,${encodeURIComponent(`import assert from "node:assert";${shown(code)}`)}`);
