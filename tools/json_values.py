@@ -15,7 +15,7 @@ def spelled_string(text, begin, strict=True):
 
 
 def no_constant(name):
-    raise ValueError(f"{name} is no JSON")
+    raise ValueError(f"{name} is not JSON")
 
 
 def value_of(text):
@@ -36,5 +36,5 @@ def flat(value):
 
 
 def value_line(text):
-    """The value that bytes write, on a line of its own. A ValueError where they are no JSON."""
+    """The value that bytes write, on a line of its own. A ValueError where they are not JSON."""
     return (flat(value_of(text.decode())) + "\n").encode()

@@ -23,7 +23,7 @@ pub record LineOutcome : Type 0 where
   pub refused : Bool
   pub layout : List ℕ
 
--- a line that is refused is no JSON text, or too deep, and gives nothing; one without a text gives nothing; any other is laid out
+-- a line that is refused is not a JSON text, or too deep, and gives nothing; one without a text gives nothing; any other is laid out
 abbrev pub ComesOutBy : Style → List ℕ → Bool → List ℕ → Type 0
 ComesOutBy style line true layout = (layout ≡ []) × (IsUtf8 line → IsRefused style line NotJson ⊎ IsRefused style line TooDeep)
 ComesOutBy style line false layout = ((layout ≡ []) × (lexemes line ≡ [])) ⊎ IsFormatted style line layout

@@ -33,7 +33,7 @@ pub extern "C" fn prettyless_layout(
 
 /// Lays out a JSON text into `out`, at a width and with an indent for each level, both in columns.
 ///
-/// The answer is the number of a status, which says what `out` and `written` are, and of bytes that are no JSON text where
+/// The answer is the number of a status, which says what `out` and `written` are, and of bytes that are not a JSON text where
 /// that is seen. `limit` is the greatest length of the layout in bytes, or 0 for none.
 #[unsafe(no_mangle)]
 pub extern "C" fn prettyless_layout_json(
@@ -69,7 +69,7 @@ pub extern "C" fn prettyless_layout_json(
 
 /// Lays out a TOML text into `out`, at a width and with an indent for the members of a broken array, both in columns.
 ///
-/// The answer is the number of a status, which says what `out` and `written` are, and of bytes that are no TOML text where
+/// The answer is the number of a status, which says what `out` and `written` are, and of bytes that are not a TOML text where
 /// that is seen. `limit` is the greatest length of the layout in bytes, or 0 for none.
 #[unsafe(no_mangle)]
 pub extern "C" fn prettyless_layout_toml(

@@ -37,7 +37,7 @@ pub record AnswersToml (limit : ℕ) (text old new : List ℕ) (written line col
   -- the layout is longer than the limit, and what is within the limit is in the area
   pub past_limit : status ≡ 4 → (bytes : List ℕ) × IsFormattedToml text bytes × (limit < length bytes)
       × Holds (take limit bytes) old new written
-  -- the bytes are no TOML text, or brackets are too deep in one another, and where that is seen
+  -- the bytes are not a TOML text, or brackets are too deep in one another, and where that is seen
   pub not_toml : status ≡ 6 → IsTomlFault text old new written line column
   -- at the other statuses there is no place
   pub no_place : ¬ (status ≡ 6) → (line ≡ 0) × (column ≡ 0)

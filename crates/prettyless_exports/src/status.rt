@@ -15,9 +15,9 @@ pub enum Status {
     /// The layout of a program's document fails. The area holds the bytes before the node that fails, as far as there is room:
     /// `written` of them.
     Fails,
-    /// The bytes are no JSON text.
+    /// The bytes are not a JSON text.
     NotJson,
-    /// The bytes are no TOML text, or brackets are too deep in one another.
+    /// The bytes are not a TOML text, or brackets are too deep in one another.
     NotToml,
     /// The bytes were not read as a document. The area is as it was, and `written` is 0.
     Refused(Fault),

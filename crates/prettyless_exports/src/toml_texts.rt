@@ -66,7 +66,7 @@ fn refused(
 /// array.
 ///
 /// `limit` is the greatest length of the layout in bytes, or 0 for none. The answer is the number of a status, which says
-/// what `out` and `written` are, and of bytes that are no TOML text where that is seen: `line` and `column` are from 1, and
+/// what `out` and `written` are, and of bytes that are not a TOML text where that is seen: `line` and `column` are from 1, and
 /// a column is a character.
 pub fn toml_layout(
     alloc: Global,

@@ -63,7 +63,7 @@ pub record IsTomlLayout (text bytes : List ℕ) : Type 0 where
   -- They have the same statements.
   pub same : statements bytes ≡ statements text
 
--- the text is no TOML; or it is, and brackets are too deep in one another, or memory was refused
+-- the text is not TOML; or it is, and brackets are too deep in one another, or memory was refused
 abbrev pub IsRefusedToml : List ℕ → FormatError → Type 0
 IsRefusedToml text NotToml = is_toml text ≡ false
 IsRefusedToml text TooDeep = (is_toml text ≡ true) × (is_too_deep text ≡ true)

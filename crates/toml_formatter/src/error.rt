@@ -8,7 +8,7 @@ use std::alloc::AllocError;
 /// Why a text was not formatted.
 #[derive(Debug, Drop)]
 pub enum FormatError {
-    /// The text is no TOML.
+    /// The text is not TOML.
     NotToml,
     /// Brackets are deeper in one another than 128.
     TooDeep,

@@ -60,7 +60,7 @@ fn laid_out(alloc: Global, text: &str, style: Style) -> Result<String, FormatErr
 /// says (`toml_document`), and comments are aligned where the style says so (`with_aligned_comments`). Its lines end as the
 /// first line of the text does that ends outside of strings. It ends with a line end, unless it is empty.
 ///
-/// `NotToml` only where the text is no TOML, and `TooDeep` only where it is TOML and more than 128 brackets are in one
+/// `NotToml` only where the text is not TOML, and `TooDeep` only where it is TOML and more than 128 brackets are in one
 /// another. `Memory` where memory is refused, whatever the text is. The layout is not judged again: that it is TOML is proved
 /// (`law_toml`).
 ///

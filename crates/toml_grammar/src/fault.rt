@@ -8,7 +8,7 @@ use crate::reading::{start, step};
 use std::alloc::{AllocError, Global};
 use toml_lexemes::{Lexeme, SpacedLexer};
 
-/// Why a text is no TOML.
+/// Why a text is not TOML.
 #[derive(Clone, Copy, Debug, PartialEq, Eq)]
 pub struct Fault<'t> {
     /// The place from which on it is none: so many bytes are before it.

@@ -1,5 +1,5 @@
 //! Whether a text is TOML 1.0, and else where it stops being TOML and what it was to have there. Keys that are defined twice are
-//! no fault of the grammar. Why a text is not laid out: it is no TOML, or its brackets are too deep in one another.
+//! no fault of the grammar. Why a text is not laid out: it is not TOML, or its brackets are too deep in one another.
 //!
 //! And which words, strings and comments are those of TOML 1.0. Nothing is read into values, so numbers have any size. For these
 //! no memory is taken, and the time is proportional to the text.

@@ -1,5 +1,5 @@
 //! The lexemes of a TOML text, each as it is spelled: signs, line ends, comments, strings and words. Any text is cut into
-//! lexemes, also one that is no TOML. And its statements, which are what it says apart from how it is laid out, with how what a
+//! lexemes, also one that is not TOML. And its statements, which are what it says apart from how it is laid out, with how what a
 //! document shows is read as statements.
 #![tactic(auto)]
 

@@ -1,7 +1,7 @@
 //! Lays TOML texts out: `tomlfmt [--width N] [--indent N] [FILE]..` writes the layout of each file, or of standard input, to
 //! standard output. With `--write` the layout of a file replaces it, where it is not laid out already. With `--check` no layout is
 //! written: the files that are not laid out are named, and the status says whether there is one. With `--diff` it is printed how they
-//! differ from their layouts. A text that is no TOML is named with the place where it stops being TOML, what was expected there, and
+//! differ from their layouts. A text that is not TOML is named with the place where it stops being TOML, what was expected there, and
 //! what stands there.
 #![tactic(auto)]
 
