@@ -1,6 +1,6 @@
 //! The document of a workload.
 
-use crate::groups::{bare_groups, tail_groups, text_groups};
+use crate::groups::{bare_groups, choice_groups, chosen_groups, tail_groups, text_groups};
 use crate::json::array;
 use crate::levels::{
     cell_lines, comment_groups, partial_groups, spaced_groups, sums, union_groups,
@@ -39,5 +39,7 @@ pub(crate) fn document<'a, D: DocPlace<'a>>(
         Workload::UnionGroups => union_groups(place, size),
         Workload::PartialGroups => partial_groups(place, size),
         Workload::CellLines => cell_lines(place, size),
+        Workload::ChoiceGroups => choice_groups(place, size),
+        Workload::ChosenGroups => chosen_groups(place, size),
     }
 }

@@ -1,13 +1,44 @@
 //! Groups in groups.
 
-use crate::parts::{Built, grouped, joined, node, on_own_line, text, text_line};
+use crate::parts::{
+    Built, by_column, grouped, joined, line_group, node, on_own_line, text, text_line,
+};
 use prettyless::{Doc, DocPlace};
+
+// Groups nested so deep around a document, with a text and a line in each in front of the next.
+fn text_groups_around<'a, D: DocPlace<'a>>(
+    place: &'a D,
+    inner: Built<'a, D>,
+    depth: usize,
+) -> Built<'a, D> {
+    let mut all = inner;
+    for _ in 0..depth {
+        all = grouped(place, joined(place, text_line(place, "a"), all));
+    }
+    all
+}
 
 /// Groups nested so deep, with a text and a line in each in front of the next.
 pub(crate) fn text_groups<'a, D: DocPlace<'a>>(place: &'a D, depth: usize) -> Built<'a, D> {
+    text_groups_around(place, text(place, "a"), depth)
+}
+
+/// The same around one choice by the column.
+pub(crate) fn choice_groups<'a, D: DocPlace<'a>>(place: &'a D, depth: usize) -> Built<'a, D> {
+    text_groups_around(place, by_column(place, "b", "c"), depth)
+}
+
+// A text, a choice by the column, a line and a document, in a group.
+fn chosen_group<'a, D: DocPlace<'a>>(place: &'a D, inner: Built<'a, D>) -> Built<'a, D> {
+    let front = joined(place, text(place, "a"), by_column(place, "b", "c"));
+    line_group(place, front, inner)
+}
+
+/// Groups nested so deep, with a choice by the column in each.
+pub(crate) fn chosen_groups<'a, D: DocPlace<'a>>(place: &'a D, depth: usize) -> Built<'a, D> {
     let mut all = text(place, "a");
     for _ in 0..depth {
-        all = grouped(place, joined(place, text_line(place, "a"), all));
+        all = chosen_group(place, all);
     }
     all
 }

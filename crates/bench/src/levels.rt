@@ -1,24 +1,12 @@
 //! Groups in groups, each with a line and more than a text, and lines of short groups.
 
 use crate::parts::{
-    Built, grouped, joined, line, line_break, node, or_text, or_text_partly, put_off, text,
+    Built, grouped, joined, line_break, line_group, node, or_text, or_text_partly, put_off, text,
 };
 use prettyless::{Doc, DocPlace};
 
 /// How many groups a line of short ones has.
 const CELLS: usize = 30;
-
-// Two documents with a line between them, in a group.
-fn line_group<'a, D: DocPlace<'a>>(
-    place: &'a D,
-    front: Built<'a, D>,
-    next: Built<'a, D>,
-) -> Built<'a, D> {
-    grouped(
-        place,
-        joined(place, joined(place, front, line(place)), next),
-    )
-}
 
 /// A sum with so many operators, and a group for each.
 pub(crate) fn sums<'a, D: DocPlace<'a>>(place: &'a D, depth: usize) -> Built<'a, D> {

@@ -3,7 +3,9 @@
 //! A `?` on a builder takes the prover longer than one on a pointer, so each stands here once.
 
 use prettyless::text::{BuildError, Text};
-use prettyless::{BuildDoc, Doc, DocAllocator, DocBuilder, DocPlace};
+use prettyless::{
+    BuildDoc, ColumnTest, Doc, DocAllocator, DocAllocatorOfTwo, DocBuilder, DocPlace,
+};
 
 /// A pointer to a document, or why there is none.
 pub(crate) type Built<'a, D> = Result<<D as DocPlace<'a>>::Doc, BuildError>;
@@ -65,6 +67,27 @@ pub(crate) fn nested<'a, D: DocPlace<'a>>(
 #[inline(always)]
 pub(crate) fn grouped<'a, D: DocPlace<'a>>(place: &'a D, inner: Built<'a, D>) -> Built<'a, D> {
     placed(DocBuilder::from_doc(place, inner?).group())
+}
+
+/// Two documents with a line between them, in a group.
+pub(crate) fn line_group<'a, D: DocPlace<'a>>(
+    place: &'a D,
+    front: Built<'a, D>,
+    next: Built<'a, D>,
+) -> Built<'a, D> {
+    grouped(
+        place,
+        joined(place, joined(place, front, line(place)), next),
+    )
+}
+
+/// A text where it starts in the first 41 columns, or else another one.
+pub(crate) fn by_column<'a, D: DocPlace<'a>>(
+    place: &'a D,
+    first: &'a str,
+    second: &'a str,
+) -> Built<'a, D> {
+    placed(place.if_column(ColumnTest::AtMost(40), first, second))
 }
 
 /// A text that is put off to the end of its line.

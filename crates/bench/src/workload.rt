@@ -43,6 +43,10 @@ pub enum Workload {
     PartialGroups,
     /// Lines of thirty short groups each.
     CellLines,
+    /// Groups in groups, with a text in each, around one choice by the column.
+    ChoiceGroups,
+    /// Groups in groups, with a choice by the column in each.
+    ChosenGroups,
 }
 
 /// All of them, as they are printed.
@@ -67,6 +71,8 @@ pub const WORKLOADS: &[Workload] = &[
     Workload::UnionGroups,
     Workload::PartialGroups,
     Workload::CellLines,
+    Workload::ChoiceGroups,
+    Workload::ChosenGroups,
 ];
 
 impl Workload {
@@ -93,6 +99,8 @@ impl Workload {
             Workload::UnionGroups => "unions",
             Workload::PartialGroups => "partial",
             Workload::CellLines => "records",
+            Workload::ChoiceGroups => "choices",
+            Workload::ChosenGroups => "chosen",
         }
     }
 
@@ -112,7 +120,9 @@ impl Workload {
             Workload::BareGroups
             | Workload::KeptTrials
             | Workload::RejectedTrials
-            | Workload::TailGroups => 100,
+            | Workload::TailGroups
+            | Workload::ChoiceGroups
+            | Workload::ChosenGroups => 100,
             Workload::RealJson => 1,
             _ => 1000,
         }
@@ -125,6 +135,8 @@ impl Workload {
             Workload::Json => &[80_000],
             Workload::RealJson => &[200],
             Workload::CellLines => &[30_000],
+            Workload::ChoiceGroups => &[1_000, 3_000, 18_000],
+            Workload::ChosenGroups => &[300, 1_000, 3_000],
             Workload::TextGroups
             | Workload::BareGroups
             | Workload::KeptTrials
@@ -163,6 +175,8 @@ pub(crate) fn workload_named(word: &str) -> Option<Workload> {
         "unions" => Some(Workload::UnionGroups),
         "partial" => Some(Workload::PartialGroups),
         "records" => Some(Workload::CellLines),
+        "choices" => Some(Workload::ChoiceGroups),
+        "chosen" => Some(Workload::ChosenGroups),
         _ => None,
     }
 }
