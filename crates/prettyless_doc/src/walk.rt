@@ -6,7 +6,7 @@ use prettyless_model::choice::ChoiceTest;
 use prettyless_model::kind::{Indenting, Pair, Single};
 use prettyless_model::mode::Mode;
 use prettyless_probe::walk::{View, Walk};
-use prettyless_summary::summary::Summary;
+use prettyless_summary::known::Known;
 
 /// A document as the printer walks it.
 impl<'d, 'a, T: DocPtr<'a>> Walk for &'d Doc<'a, T> {
@@ -20,9 +20,9 @@ impl<'d, 'a, T: DocPtr<'a>> Walk for &'d Doc<'a, T> {
     }
 
     #[inline(always)]
-    fn known(&self, mode: Mode) -> Option<Summary> {
+    fn known(&self, mode: Mode) -> Known {
         let _mode = mode;
-        None
+        Known::nothing()
     }
 
     #[inline(always)]

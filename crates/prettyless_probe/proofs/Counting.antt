@@ -1,6 +1,6 @@
 -- How many nodes a probe reads, node by node.
 use Rattle.std.proofs.Common.{◌≡◌, ℕ, ◌+◌, ◌-◌, ◌^◌, ◌<◌, ◌≤◌, min, List, [], ◌∷◌, refl, Result, Ok, Err, IfOk, Bool, true, false}
-use Rattle.std.proofs.Common.{◌&&◌, ◌||◌, nat_lt, ◌∙◌, ap, arith, sym, if◌then◌else◌}
+use Rattle.std.proofs.Common.{◌&&◌, ◌||◌, nat_lt, ◌∙◌, ap, arith, sym, if◌then◌else◌, IsTrue}
 use Rattle.prettyless_model.specs.Tree as t
 use Rattle.prettyless_model.specs.Tree.{Tree}
 use Rattle.prettyless_model.specs.Choice.{column_holds, nesting_holds}
@@ -11,11 +11,14 @@ use Rattle.prettyless_model.specs.declared.choice.NestingTest.{NestingTest}
 use Rattle.prettyless_model.specs.declared.column.Column.{Column}
 use Rattle.prettyless_model.specs.declared.mode.Mode.{Mode}
 use Rattle.prettyless_model.specs.declared.mode.Mode.TheVariants.{Break}
-use Rattle.prettyless_summary.specs.Summary.{Summarizes, has_summary, look_by}
+use Rattle.prettyless_summary.specs.Summary.{HasSummaries, Summarizes, has_summary, look_by}
 use Rattle.prettyless_summary.specs.declared.summary.Summary.{Summary}
-use Rattle.prettyless_summary.proofs.Has.{only_second}
 use Rattle.prettyless_probe.specs.Stack.{Task, make_task}
-use Rattle.prettyless_probe.specs.Reads.{by_sums, parts_read, probe_reads, read_after, reads, reads_all, reads_below, reads_from, with_below}
+use Rattle.prettyless_summary.specs.Known.{before_choice}
+use Rattle.prettyless_summary.proofs.Has.{has_one}
+use Rattle.prettyless_summary.proofs.Knowing.{Leads, leads}
+use Rattle.prettyless_probe.specs.Reads.{answers_before, by_sums, is_answer, parts_read, probe_reads, read_after, reads, reads_all, reads_below}
+use Rattle.prettyless_probe.specs.Reads.{reads_from, with_below}
 
 -- what is read after one look and then another
 pub after-then : (x : Look) (f : Column → Bool → Look) (g : Column → Bool → ℕ) →
@@ -170,28 +173,54 @@ pub only_first : (a b : Bool) → (a && b) ≡ true → a ≡ true
 only_first true b e = refl
 only_first false b e = absurd (cc)
 
+unlike : (b : Bool) → b ≡ true → b ≡ false → ⊥
+unlike true e h = cc
+unlike false e h = cc
+
+-- a document all of whose nodes have summaries has one
+pub known_none : {A : Type 0} (d : Tree) (m : Mode) → HasSummaries d → has_summary d m ≡ false → A
+known_none d m all none = absurd (unlike (has_summary d m) (has_one d m all) none)
+
+-- what is false where another one is true is not so with it
+pub not_both : (a b : Bool) → (IsTrue a → b ≡ false) → (a && b) ≡ false
+not_both true b h = h refl
+not_both false b h = refl
+
+-- nothing is read after an answer
+read_if : (b : Bool) (x : Look) (next : Column → Bool → ℕ) → (b ≡ true → is_answer x ≡ true) → 1 + read_after x next ≡ (if b then 1 else 1 + read_after x next)
+read_if false x next h = refl
+read_if true (Answers b) next h = refl
+read_if true (GoesOn c p) next h = absurd (unlike false (h refl) refl)
+
+-- what comes before a choice has an answer, where there is no choice, just where the document has
+answers_alike : (b : Bool) (x y : Look) → b ≡ true → Leads b x y → is_answer x ≡ is_answer y
+answers_alike true x y e h = ap is_answer h
+answers_alike false x y e h = absurd (cc)
+
 -- a probe of a document by its summary, and then of what follows it
 pub reads_by_summary : (has : Bool) (old w i : ℕ) (m : Mode) (s : Summary) (d : Tree) (mine under ts : List Task) (c : Column) (p : Bool)
-    → (has && has_summary d m) ≡ true → Summarizes s d m → mine ≡ [] → under ≡ ts →
+    → has ≡ true → has_summary d m ≡ true → Summarizes s d m → mine ≡ [] → under ≡ ts →
     1 + read_after (look_by w s c p) (reads_all true w mine (reads_below true w false under)) ≡ probe_reads has old w d i m ts c p
-reads_by_summary has old w i m s d mine under ts c p sure known none same =
+reads_by_summary true old w i m s d mine under ts c p on one known none same =
     let own : Bool = has_summary d m in
     let next : Column → Bool → ℕ = reads_below true w false ts in
-    let one = only_second has own (only_first has own sure) sure in
     ap (λ (z : List Task). 1 + read_after (look_by w s c p) (reads_all true w z (reads_below true w false under))) none
     ∙ ap (λ (z : List Task). 1 + read_after (look_by w s c p) (reads_below true w false z)) same
     ∙ ap (λ (x : Look). 1 + read_after x next) (known i w c p)
-    ∙ sym (reads_by_one w i m d [] next c p one)
-    ∙ ap (λ (b : Bool). reads_from b w d i m ts c p) (sym (sums_own has own (nat_lt old parts_read) sure))
+    ∙ read_if (answers_before w d i m c p) (look w d i m c p) next (λ e. sym (answers_alike own (look w (before_choice d m) i m c p) (look w d i m c p) one (leads w i m d c p)) ∙ e)
+    ∙ ap (λ (n : ℕ). if answers_before w d i m c p then 1 else n) (sym (reads_by_one w i m d [] next c p one)
+    ∙ ap (λ (b : Bool). reads_from b w d i m ts c p) (sym (sums_own true own (nat_lt old parts_read) one)))
+reads_by_summary false old w i m s d mine under ts c p on one known none same = absurd (cc)
 
 -- a probe of a document that reads summaries, or that does not
 pub reads_by_nodes : (sums : Bool) (has : Bool) (old w i : ℕ) (m : Mode) (d : Tree) (mine under ts : List Task) (c : Column) (p : Bool)
-    → by_sums has old d m ≡ sums → mine ≡ [] → under ≡ ts →
+    → (has && answers_before w d i m c p) ≡ false → by_sums has old d m ≡ sums → mine ≡ [] → under ≡ ts →
     reads_all sums w (make_task i m d ∷ mine) (reads_below sums w false under) c p ≡ probe_reads has old w d i m ts c p
-reads_by_nodes sums has old w i m d mine under ts c p chosen none same =
+reads_by_nodes sums has old w i m d mine under ts c p before chosen none same =
     ap (λ (z : List Task). reads_all sums w (make_task i m d ∷ z) (reads_below sums w false under) c p) none
     ∙ ap (λ (z : List Task). reads_from sums w d i m z c p) same
     ∙ ap (λ (b : Bool). reads_from b w d i m ts c p) (sym chosen)
+    ∙ ap (λ (b : Bool). if b then 1 else reads_from (by_sums has old d m) w d i m ts c p) (sym before)
 
 -- what follows, where the first of it has no summary
 pub reads_unknown : (w : ℕ) (t : Task) (ts : List Task) (c : Column) (p : Bool) → has_summary t.tree Break ≡ false →

@@ -3,5 +3,6 @@ pub mod Frames
 pub mod Stack
 pub mod Sums
 pub mod Reads
+pub mod Glances
 pub mod Probing
 pub mod Texts

@@ -10,6 +10,7 @@ use Rattle.prettyless_model.specs.declared.column.Column.{Column}
 use Rattle.prettyless_model.specs.declared.mode.Mode.{Mode}
 use Rattle.prettyless_model.specs.declared.mode.Mode.TheVariants.{Break, Flat}
 use Rattle.prettyless_summary.specs.Summary.{has_summary}
+use Rattle.prettyless_summary.specs.Known.{before_choice}
 use Rattle.prettyless_probe.specs.Stack.{Task, make_task, nodes}
 use Rattle.prettyless_probe.specs.declared.probe.ProbeStep.{ProbeStep}
 use Rattle.prettyless_probe.specs.declared.probe.ProbeStep.TheVariants.{Answer, Descend, Silent}
@@ -73,9 +74,20 @@ by_sums has old d m = has && (has_summary d m || nat_lt old parts_read)
 abbrev pub reads_from : Bool → ℕ → Tree → ℕ → Mode → List Task → Column → Bool → ℕ
 reads_from sums width d i m ts c p = reads_all sums width (make_task i m d ∷ []) (reads_below sums width false ts) c p
 
--- how many nodes a probe of a document reads, of it and of what follows it, where probes visited so many nodes before
+-- whether a look is an answer
+abbrev pub is_answer : Look → Bool
+is_answer (Answers b) = true
+is_answer (GoesOn c p) = false
+
+-- whether what comes before the first choice of a document answers a probe
+abbrev pub answers_before : ℕ → Tree → ℕ → Mode → Column → Bool → Bool
+answers_before width d i m c p = is_answer (look width (before_choice d m) i m c p)
+
+-- How many nodes a probe of a document reads, of it and of what follows it, where probes visited so many nodes before. Where nodes have
+-- summaries, what comes before the first choice of the document is read as one.
 abbrev pub probe_reads : Bool → ℕ → ℕ → Tree → ℕ → Mode → List Task → Column → Bool → ℕ
-probe_reads has old width d i m ts c p = reads_from (by_sums has old d m) width d i m ts c p
+probe_reads has old width d i m ts c p =
+    if has && answers_before width d i m c p then 1 else reads_from (by_sums has old d m) width d i m ts c p
 
 -- what a probe has still to read after the result at a node: of the node that is read next, if there is one, and of the tasks after it
 abbrev pub reads_on : {N : Type 0} → (N → Tree) → Bool → ℕ → ProbeStep N → List Task → (Column → Bool → ℕ) → Column → Bool → ℕ

@@ -17,7 +17,8 @@ ghost use Rattle.prettyless_probe.specs.Reads.{IsFew, RisesTo, parts_read, probe
 ghost use Rattle.prettyless_probe.specs.Sums.{IsSummed};
 ghost use Rattle.prettyless_probe.specs.Stack.{IsCursor, Task, follow, in_break, make_task, nodes, stack_of, task, tasks_fit};
 ghost use Rattle.prettyless_probe.specs.Stack.{room_of, unread};
-ghost use Rattle.prettyless_summary.specs.Summary.{FoundIf, HasSummaries, IsFound, IsKnown, has_summary};
+ghost use Rattle.prettyless_probe.specs.Glances.{IsLearned};
+ghost use Rattle.prettyless_summary.specs.Summary.{has_summary};
 ghost use Rattle.prettyless_probe.specs.Texts.{IsTexts, IsTextsIf, tasks_waiting, texts_waiting};
 
 use crate::choice::{by_column, by_nesting, either};
@@ -31,7 +32,8 @@ use prettyless_model::count::one_more;
 use prettyless_model::kind::{Indenting, Pair, Single};
 use prettyless_model::metrics::Metrics;
 use prettyless_model::mode::Mode;
-use prettyless_summary::summary::Summary;
+use prettyless_summary::known::Known;
+use prettyless_summary::summary::{ReadResult, Summary};
 use std::alloc::AllocError;
 use std::marker::Model;
 
@@ -547,19 +549,30 @@ fn visit_all<N: Walk>(
 // than to read it.
 const PARTS_READ: u64 = 1_000;
 
-// What a node shows a probe in a mode, where nodes have summaries and it has one.
+// What a probe learns of a node before it reads it.
+#[derive(Clone, Copy)]
+enum Glance {
+    Nothing,
+    // the summary of the node
+    Sum(Summary),
+    // the answer of what the node begins with
+    Answer(bool),
+}
+
+// What a probe learns of a node by what is known of it, where nodes have summaries.
 #[inline(always)]
-fn summary_of<N: Walk>(node: &N, mode: Mode) -> Option<Summary>
-    ensures known { IsKnown result (N.tree node.now) mode }
-    ensures found { IsTrue N.HAS_SUMMARIES → HasSummaries (N.tree node.now) → size (N.tree node.now) < 2 ^ 32
-        → IsFound (size (N.tree node.now)) result }
-    ensures exact { (IsTrue N.HAS_SUMMARIES → size (N.tree node.now) < 2 ^ 32)
-        → FoundIf (N.HAS_SUMMARIES && has_summary (N.tree node.now) mode) (size (N.tree node.now)) result }
+fn learn<N: Walk>(width: usize, line: ProbeLine, node: &N, mode: Mode) -> Glance
+    ensures { (i : ℕ) → IsLearned N.HAS_SUMMARIES result width (N.tree node.now) i mode line.column line.pending }
 {
-    if N::has_summaries() {
-        node.known(mode)
-    } else {
-        None
+    if !N::has_summaries() {
+        return Glance::Nothing;
+    }
+    match node.known(mode) {
+        Known::Whole(summary) => Glance::Sum(summary),
+        Known::Begins(summary) => match summary.read(width, line.column, line.pending) {
+            ReadResult::Answer(answer) => Glance::Answer(answer),
+            ReadResult::Line(_, _) => Glance::Nothing,
+        },
     }
 }
 
@@ -606,9 +619,16 @@ pub fn probe<N: Walk>(
 {
     stack.clear();
     let below = commands.cursor();
-    if let Some(summary) = summary_of(&node, mode) {
-        let fits = visit_by_sums(width, start, summary, commands, below, stack, probes)?;
-        return Ok(found(fits, false));
+    match learn(width, start, &node, mode) {
+        Glance::Sum(summary) => {
+            let fits = visit_by_sums(width, start, summary, commands, below, stack, probes)?;
+            return Ok(found(fits, false));
+        }
+        Glance::Answer(fits) => {
+            *probes = one_more(*probes);
+            return Ok(found(fits, false));
+        }
+        Glance::Nothing => {}
     }
     let first = Command { indent, mode, node };
     if reads_parts::<N>(*probes) {

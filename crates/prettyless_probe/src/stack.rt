@@ -6,6 +6,7 @@ ghost use Rattle.prettyless_probe.specs.Frames.{Rises, Rises-prop, lowest};
 use crate::command::{Command, Frame};
 use crate::walk::Walk;
 use prettyless_model::mode::Mode;
+use prettyless_summary::known::Known;
 use prettyless_summary::summary::Summary;
 use std::alloc::{AllocError, Global};
 
@@ -135,7 +136,7 @@ impl<N: Walk> Stack<N> {
             → SumsUp result (make_task i m (N.tree node.now) ∷ stack_of N.tree self.now) }
     {
         let height = self.nodes.len();
-        let Some(own) = node.known(Mode::Break) else {
+        let Known::Whole(own) = node.known(Mode::Break) else {
             return Below {
                 sum: Summary::nothing(),
                 left: height + 1,

@@ -17,6 +17,7 @@ use crate::stack::{Cursor, Stack};
 use crate::walk::Walk;
 use prettyless_model::count::one_more;
 use prettyless_model::mode::Mode;
+use prettyless_summary::known::Known;
 use prettyless_summary::summary::{ReadResult, Summary};
 use std::alloc::AllocError;
 
@@ -63,8 +64,8 @@ fn read_one<N: Walk>(
         ≡ 1 + reads_on N.tree true width a (stack_of N.tree stack.new) next line.new.column line.new.pending) }
 {
     match node.known(mode) {
-        Some(summary) => Ok(read_by(width, line, summary)),
-        None => probe_one(width, line, indent, mode, node, stack),
+        Known::Whole(summary) => Ok(read_by(width, line, summary)),
+        Known::Begins(_) => probe_one(width, line, indent, mode, node, stack),
     }
 }
 

@@ -1,13 +1,13 @@
 //! The interface to documents: a node as the printer sees it. It does not know how documents are stored.
-ghost use Rattle.std.specs.Prelude.{◌≡◌, ◌<◌, ◌^◌, ◌&&◌, Bool, IsTrue};
-ghost use Rattle.prettyless_model.specs.Tree.{Tree, size};
+ghost use Rattle.std.specs.Prelude.{◌≡◌, Bool, IsTrue};
+ghost use Rattle.prettyless_model.specs.Tree.{Tree};
 ghost use Rattle.prettyless_probe.specs.View.{IsMeasured, view_tree};
-ghost use Rattle.prettyless_summary.specs.Summary.{FoundIf, HasSummaries, IsFound, IsKnown, has_summary};
+ghost use Rattle.prettyless_summary.specs.Known.{Holds, IsFound};
 
 use prettyless_model::kind::{Pair, Single};
 use prettyless_model::metrics::Metrics;
 use prettyless_model::mode::Mode;
-use prettyless_summary::summary::Summary;
+use prettyless_summary::known::Known;
 
 /// One node, as the printer sees it: its variant with its text, or how it holds other nodes, and these. Widths are columns.
 #[derive(Drop)]
@@ -48,12 +48,9 @@ pub trait Walk: Copy {
         ensures tree { view_tree tree result ≡ tree self.now }
         ensures metrics { IsMeasured result };
 
-    /// What the node shows a probe in a mode, where that is known: where nodes have summaries, it is so for one that has a summary in
-    /// that mode, and for no other, unless it is too large.
-    fn known(&self, mode: Mode) -> Option<Summary>
-        ensures known { IsKnown result (tree self.now) mode }
-        ensures found { IsTrue HAS_SUMMARIES → HasSummaries (tree self.now) → size (tree self.now) < 2 ^ 32
-            → IsFound (size (tree self.now)) result }
-        ensures exact { size (tree self.now) < 2 ^ 32
-            → FoundIf (HAS_SUMMARIES && has_summary (tree self.now) mode) (size (tree self.now)) result };
+    /// What is known of the node's summary in a mode. Where nodes have summaries, all of it is, if the node has one, and else that of
+    /// what comes before its first choice, unless the node is too large.
+    fn known(&self, mode: Mode) -> Known
+        ensures known { Holds result (tree self.now) mode }
+        ensures found { IsTrue HAS_SUMMARIES → IsFound result (tree self.now) mode };
 }

@@ -1,10 +1,12 @@
 -- Which documents have summaries.
-use Rattle.std.proofs.Common.{◌≡◌, ℕ, ◌&&◌, Bool, true, false, IsTrue, Some, None, refl}
+use Rattle.std.proofs.Common.{◌≡◌, ◌&&◌, Bool, true, false, refl}
 use Rattle.prettyless_model.specs.Tree as t
-use Rattle.prettyless_model.specs.Tree.{Tree}
+use Rattle.prettyless_model.specs.Tree.{Tree, size}
 use Rattle.prettyless_model.specs.declared.mode.Mode.{Mode}
 use Rattle.prettyless_model.specs.declared.mode.Mode.TheVariants.{Break, Flat}
-use Rattle.prettyless_summary.specs.Summary.{FoundIf, HasSummaries, IsSmall, has_summary}
+use Rattle.prettyless_summary.specs.Summary.{HasSummaries, IsSmall, Summarizes, has_summary}
+use Rattle.prettyless_summary.specs.Known.{FoundIf, before_choice}
+use Rattle.prettyless_summary.specs.declared.known.Known.TheVariants.{Whole, Begins}
 use Rattle.prettyless_summary.specs.declared.summary.Summary.{Summary}
 
 both : (a b : Bool) → a ≡ true → b ≡ true → (a && b) ≡ true
@@ -34,16 +36,15 @@ has_one t.HardLine m h = refl
 has_one t.WeakLine m h = refl
 has_one t.ExpandParent m h = refl
 
--- a summary that is known, and one that is not
-pub found_some : (b : Bool) (n : ℕ) (s : Summary) → FoundIf b n (Some s) → (b ≡ true) × IsSmall n s
-found_some true n s h = (refl, h)
-found_some false n s h = absurd (cc)
+-- what is found of a document that has a summary, and of one that has none
+pub found_whole : (b : Bool) (s : Summary) (d : Tree) (m : Mode) → FoundIf b (Whole s) d m → (b ≡ true) × IsSmall (size d) s
+found_whole true s d m h = (refl, h)
+found_whole false s d m h = absurd h
 
-pub found_none : (b : Bool) (n : ℕ) → FoundIf b n None → b ≡ false
-found_none true n h = absurd h
-found_none false n h = refl
+pub found_begins : (b : Bool) (s : Summary) (d : Tree) (m : Mode) → FoundIf b (Begins s) d m → b ≡ false
+found_begins true s d m h = absurd h
+found_begins false s d m h = refl
 
--- what two say together, where the first is true
-pub only_second : (a b : Bool) {c : Bool} → IsTrue a → (a && b) ≡ c → b ≡ c
-only_second true b on e = e
-only_second false b on e = absurd (cc)
+pub found_before : (b : Bool) (s : Summary) (d : Tree) (m : Mode) → FoundIf b (Begins s) d m → Summarizes s (before_choice d m) m
+found_before true s d m h = absurd h
+found_before false s d m h = h.0

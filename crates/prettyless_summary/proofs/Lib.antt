@@ -1,6 +1,6 @@
 pub mod Chains
 pub mod Has
+pub mod Knowing
 pub mod Ink
 pub mod Packing
-pub mod Variants
 pub mod Weak

@@ -1,2 +1,3 @@
 pub mod Summary
+pub mod Known
 pub mod Marks

@@ -1,5 +1,5 @@
 -- What a document shows a probe, in one value.
-use Rattle.std.specs.Prelude.{◌≡◌, ℕ, ◌+◌, ◌≤◌, Bool, true, false, not, ◌&&◌, ◌||◌, ◌==◌, nat_le, Option, Some, None, MatchOption}
+use Rattle.std.specs.Prelude.{◌≡◌, ℕ, ◌+◌, ◌≤◌, Bool, true, false, not, ◌&&◌, ◌||◌, ◌==◌, nat_le, Option, Some, None}
 use Rattle.std.specs.Prelude.{⊤, if◌then◌else◌}
 use Rattle.prettyless_model.specs.Tree.{Tree, Append, LineSuffix, Indented, Flatten, BreakOrFlat, Group, Union, PartialUnion, Chosen}
 use Rattle.prettyless_model.specs.Column.{saturating_add, commit, padding_fits}
@@ -68,10 +68,6 @@ ContinuesLook s f r = ReadsLook r (λ width c p. look_then (look_by width s c p)
 abbrev pub ThenReads : Summary → Summary → Summary → Type 0
 ThenReads s t r = ContinuesLook s (λ width. look_by width t) r
 
--- the summary of a document in a mode, if it is known
-abbrev pub IsKnown : Option Summary → Tree → Mode → Type 0
-IsKnown s d m = MatchOption s ⊤ (λ x. Summarizes x d m)
-
 -- it counts at most so many weak spaces apart from those between ink
 abbrev pub IsSmall : ℕ → Summary → Type 0
 IsSmall n s = s.lead + s.trail ≤ n
@@ -80,15 +76,6 @@ IsSmall n s = s.lead + s.trail ≤ n
 abbrev pub look_of : ReadResult → Look
 look_of (Answer b) = Answers b
 look_of (Line c p) = GoesOn c p
-
--- it is known, and counts at most so many weak spaces
-abbrev pub IsFound : ℕ → Option Summary → Type 0
-IsFound n s = MatchOption s ⊥ (IsSmall n)
-
--- it is so where this holds, and else it is not known
-abbrev pub FoundIf : Bool → ℕ → Option Summary → Type 0
-FoundIf true n s = IsFound n s
-FoundIf false n s = s ≡ None
 
 -- a document all of whose nodes have summaries: no choice by column or nesting
 abbrev pub HasSummaries : Tree → Type 0

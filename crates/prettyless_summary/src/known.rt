@@ -1,17 +1,43 @@
-//! Summaries that may not be known. This file knows no nodes.
-ghost use Rattle.std.specs.Prelude.{ℕ, ◌+◌, ◌<◌, ◌^◌, Bool, ◌&&◌};
+//! What is known of a document's summary. This file knows no nodes.
 ghost use Rattle.prettyless_model.specs.Tree.{Append, Tree};
 ghost use Rattle.prettyless_model.specs.declared.mode.Mode.{Mode};
-ghost use Rattle.prettyless_summary.specs.Summary.{FoundIf, IsFound, IsKnown};
+ghost use Rattle.prettyless_summary.specs.Known.{Holds, IsKnown};
 
 use crate::summary::Summary;
 
-/// The summary of two documents one after the other, if it is known: where both are, unless there are too many weak spaces to count.
+/// What is known of a document: its summary, or that of what it begins with.
+#[derive(Clone, Copy)]
+pub enum Known {
+    /// The summary of the document.
+    Whole(Summary),
+    /// The summary of what comes before its first choice by column or nesting. Where that answers a probe, so does the document.
+    Begins(Summary),
+}
+
+impl Known {
+    /// Nothing is known.
+    #[inline(always)]
+    pub fn nothing() -> Self
+        ensures { (d : Tree) (m : Mode) → Holds result d m }
+    {
+        Known::Begins(Summary::nothing())
+    }
+}
+
+/// What is known of two documents one after the other. What comes after a choice is not, nor what comes after more weak spaces than can
+/// be counted.
 #[inline]
-pub fn appended(first: Option<Summary>, second: Option<Summary>) -> Option<Summary>
-    ensures known { (d e : Tree) (m : Mode) → IsKnown first d m → IsKnown second e m → IsKnown result (Append d e) m }
-    ensures found { (n k : ℕ) → n + k < 2 ^ 32 → IsFound n first → IsFound k second → IsFound (n + k) result }
-    ensures exact { (a b : Bool) (n k : ℕ) → n + k < 2 ^ 32 → FoundIf a n first → FoundIf b k second → FoundIf (a && b) (n + k) result }
+pub fn appended(first: Known, second: Known) -> Known
+    ensures { (d e : Tree) (m : Mode) → IsKnown first d m → IsKnown second e m → IsKnown result (Append d e) m }
 {
-    first?.then(second?)
+    match (first, second) {
+        (Known::Begins(_), _) => first,
+        (Known::Whole(start), Known::Whole(next)) => match start.then(next) {
+            Some(sum) => Known::Whole(sum),
+            None => Known::Begins(start),
+        },
+        (Known::Whole(start), Known::Begins(next)) => Known::Begins(
+            start.then(next).unwrap_or(start),
+        ),
+    }
 }

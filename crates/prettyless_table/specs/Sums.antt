@@ -1,45 +1,41 @@
 -- What a table knows of a document: its summaries, and how cells keep them.
-use Rattle.std.specs.Prelude.{◌≡◌, refl, ℕ, ◌+◌, ◌^◌, ◌<◌, ◌≤◌, Bool, true, false, Option}
+use Rattle.std.specs.Prelude.{◌≡◌, refl, ℕ, ◌-◌, ◌<◌, ◌≤◌, Bool, true, false}
 use Rattle.std.specs.Coded.{le_prop}
 use Rattle.std.proofs.Math.Nat.{ℕ_set}
 use ghost.Sets.{retract_set}
 use mathlib.Core.Bool.{Bool-set}
-use Rattle.prettyless_model.specs.Tree.{Tree, size}
+use Rattle.prettyless_model.specs.Tree.{Tree}
 use Rattle.prettyless_model.specs.Look.{Look, Answers, GoesOn}
 use Rattle.prettyless_model.specs.declared.column.Column.{Column}
 use Rattle.prettyless_model.specs.Column.{start}
 use Rattle.prettyless_model.specs.declared.mode.Mode.{Mode}
 use Rattle.prettyless_model.specs.declared.mode.Mode.TheVariants.{Break, Flat}
-use Rattle.prettyless_summary.specs.Summary.{FoundIf, IsKnown, Summarizes, has_summary}
+use Rattle.prettyless_summary.specs.Known.{FoundIf, Holds, IsKnown}
+use Rattle.prettyless_summary.specs.declared.known.Known.{Known}
+use Rattle.prettyless_summary.specs.declared.known.Known.TheVariants.{Whole, Begins}
 use Rattle.prettyless_summary.specs.Marks.{marks_of}
 use Rattle.prettyless_summary.specs.declared.summary.Summary.{Summary}
 use Rattle.prettyless_table.specs.declared.sums.Counts.{Counts}
 use Rattle.prettyless_table.specs.declared.sums.Sums.{Sums}
 
--- the summary of a document in a mode, if it is known; it is just where the document has one, unless it is too large
-pub record IsModeSummary (s : Option Summary) (d : Tree) (m : Mode) : Type 0 where
-  pub known : IsKnown s d m
-  pub found : size d < 2 ^ 32 → FoundIf (has_summary d m) (size d) s
-
--- the summaries of a document in both modes
+-- what is known of a document in both modes
 pub record AreDocumentSums (s : Sums) (d : Tree) : Type 0 where
-  pub flat : IsModeSummary s.flat d Flat
-  pub broken : IsModeSummary s.broken d Break
+  pub flat : IsKnown s.flat d Flat
+  pub broken : IsKnown s.broken d Break
 
 -- the only summary that has these marks and numbers
 abbrev pub IsOnly : ℕ → Counts → Summary → Type 0
 IsOnly marks counts s =
     (t : Summary) → counts.lead ≡ t.lead → counts.inner ≡ t.inner → counts.trail ≡ t.trail → marks ≡ marks_of t → s ≡ t
 
--- where this holds, marks and numbers are those of a summary that counts at most so many weak spaces; else of none
-abbrev pub KeptIf : Bool → ℕ → Counts → ℕ → Type 0
-KeptIf true marks counts n = (marks < 255) × (counts.lead + counts.trail ≤ n)
-KeptIf false marks counts n = marks ≡ 255
+-- this is what marks and numbers say
+abbrev pub IsUnpacked : ℕ → Counts → Known → Type 0
+IsUnpacked marks counts (Whole s) = (marks < 64) × IsOnly marks counts s
+IsUnpacked marks counts (Begins s) = (64 ≤ marks) × IsOnly (marks - 64) counts s
 
--- marks and numbers of the summary of a document in a mode, if it is known
-pub record Keeps (marks : ℕ) (counts : Counts) (d : Tree) (m : Mode) : Type 0 where
-  pub known : marks < 255 → (s : Summary) → IsOnly marks counts s → Summarizes s d m
-  pub found : size d < 2 ^ 32 → KeptIf (has_summary d m) marks counts (size d)
+-- what marks and numbers say is known of a document in a mode
+abbrev pub Keeps : ℕ → Counts → Tree → Mode → Type 0
+Keeps marks counts d m = (k : Known) → IsUnpacked marks counts k → IsKnown k d m
 
 -- a look as numbers, so that an equation of looks has one proof
 abbrev pub look_code : Look → Bool × (Bool × Column)
@@ -57,12 +53,18 @@ look_same (GoesOn c p) = refl
 Look-set : IsSet Look
 Look-set = retract_set look_code look_back look_same (hlevel (ℕ_set, Bool-set))
 
-Summarizes-prop : (s : Summary) (d : Tree) (m : Mode) → IsProp (Summarizes s d m)
-Summarizes-prop s d m = hlevel Look-set
+Holds-prop : (k : Known) (d : Tree) (m : Mode) → IsProp (Holds k d m)
+Holds-prop (Whole s) d m = hlevel Look-set
+Holds-prop (Begins s) d m = hlevel Look-set
 
-KeptIf-prop : (b : Bool) (marks : ℕ) (counts : Counts) (n : ℕ) → IsProp (KeptIf b marks counts n)
-KeptIf-prop true marks counts n = hlevel le_prop
-KeptIf-prop false marks counts n = hlevel ℕ_set
+FoundIf-prop : (b : Bool) (k : Known) (d : Tree) (m : Mode) → IsProp (FoundIf b k d m)
+FoundIf-prop true (Whole s) d m = hlevel le_prop
+FoundIf-prop false (Begins s) d m = hlevel (Look-set, le_prop)
+FoundIf-prop true (Begins s) d m = hlevel
+FoundIf-prop false (Whole s) d m = hlevel
+
+IsKnown-prop : (k : Known) (d : Tree) (m : Mode) → IsProp (IsKnown k d m)
+IsKnown-prop k d m = hlevel (Holds-prop k d m, FoundIf-prop)
 
 pub Keeps-prop : (marks : ℕ) (counts : Counts) (d : Tree) (m : Mode) → IsProp (Keeps marks counts d m)
-Keeps-prop marks counts d m = hlevel (Summarizes-prop, KeptIf-prop)
+Keeps-prop marks counts d m = hlevel (λ (k : Known). IsKnown-prop k d m)

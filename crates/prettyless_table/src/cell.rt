@@ -2,12 +2,12 @@
 ghost use Rattle.std.specs.Prelude.{◌≡◌};
 ghost use Rattle.prettyless_model.specs.Tree.{Tree};
 ghost use Rattle.prettyless_table.specs.Cells.{KeepsBoth, second_of};
-ghost use Rattle.prettyless_table.specs.Sums.{IsModeSummary};
+ghost use Rattle.prettyless_summary.specs.Known.{IsKnown};
 
 use crate::sums::{Counts, kept};
 use prettyless_model::mode::Mode;
 use prettyless_probe::walk::Walk;
-use prettyless_summary::summary::Summary;
+use prettyless_summary::known::Known;
 
 /// A cell of a table: the summaries of a node, or a document that was stored.
 #[derive(Drop)]
@@ -25,10 +25,10 @@ pub enum Cell<N> {
 }
 
 impl<N: Walk> Cell<N> {
-    /// The summary in a mode that the cell keeps.
+    /// What the cell keeps of a mode.
     #[inline(always)]
-    pub fn summary(&self, mode: Mode) -> Option<Summary>
-        ensures { (d : Tree) → KeepsBoth self.now d → IsModeSummary result d mode }
+    pub fn known(&self, mode: Mode) -> Known
+        ensures { (d : Tree) → KeepsBoth self.now d → IsKnown result d mode }
     {
         match self {
             Cell::Sums {
@@ -38,7 +38,7 @@ impl<N: Walk> Cell<N> {
                 broken,
                 ..
             } => kept(mode, *flat_marks, *flat, *broken_marks, *broken),
-            Cell::Root(_, _) => None,
+            Cell::Root(_, _) => Known::nothing(),
         }
     }
 

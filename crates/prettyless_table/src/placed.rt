@@ -7,7 +7,7 @@ use crate::table::Table;
 use prettyless_model::kind::{Pair, Single};
 use prettyless_model::mode::Mode;
 use prettyless_probe::walk::{View, Walk};
-use prettyless_summary::summary::Summary;
+use prettyless_summary::known::Known;
 use std::alloc::AllocError;
 
 /// A node of a document that is stored in a table, with its place there.
@@ -116,8 +116,8 @@ impl<'t, N: Walk> Walk for Placed<'t, N> {
     }
 
     #[inline(always)]
-    fn known(&self, mode: Mode) -> Option<Summary> {
-        self.table.summary(&self.node, self.at, mode)
+    fn known(&self, mode: Mode) -> Known {
+        self.table.known(&self.node, self.at, mode)
     }
 
     #[inline(always)]

@@ -7,20 +7,20 @@ ghost use Rattle.prettyless_model.specs.declared.mode.Mode.{Mode};
 ghost use Rattle.prettyless_model.specs.declared.mode.Mode.TheVariants.{Break, Flat};
 ghost use Rattle.prettyless_summary.specs.Summary.{IsSmall, ReadsLook, Summarizes};
 ghost use Rattle.prettyless_table.specs.Parts.{parts_of, small};
-ghost use Rattle.prettyless_table.specs.Sums.{AreDocumentSums, Keeps, IsModeSummary};
+ghost use Rattle.prettyless_summary.specs.Known.{IsKnown};
+ghost use Rattle.prettyless_table.specs.Sums.{AreDocumentSums, Keeps};
 
 use prettyless_model::kind::{Pair, Single};
 use prettyless_model::mode::Mode;
 use prettyless_probe::walk::{View, Walk};
-use prettyless_summary::known::appended;
+use prettyless_summary::known::{Known, appended};
 use prettyless_summary::summary::Summary;
 
-/// The summaries of a node, where they are known: of its reading where lines are flat, and where they are broken.
-/// `None` says that one is not known.
+/// What is known of a node: of its reading where lines are flat, and where they are broken.
 #[derive(Clone, Copy)]
 pub struct Sums {
-    pub flat: Option<Summary>,
-    pub broken: Option<Summary>,
+    pub flat: Known,
+    pub broken: Known,
 }
 
 /// The numbers of a summary, in columns, as `Summary` has them.
@@ -34,55 +34,49 @@ pub struct Counts {
     pub trail: u32,
 }
 
-/// The marks of a summary that is not known.
-pub const NOT_KNOWN: u8 = 255;
+/// What is added to the marks of a summary of what a document begins with.
+const BEGINS: u8 = 64;
 
-/// The marks and the numbers of a summary. Where it is not known, they are `NOT_KNOWN` and zeros.
+// The numbers of a summary.
 #[inline(always)]
-pub fn packed(sum: Option<Summary>) -> (u8, Counts)
-    ensures { (d : Tree) (m : Mode) → IsModeSummary sum d m → Keeps result.0 result.1 d m }
+fn counts_of(sum: Summary) -> Counts
+    ensures lead { result.lead ≡ sum.lead }
+    ensures inner { result.inner ≡ sum.inner }
+    ensures trail { result.trail ≡ sum.trail }
 {
-    match sum {
-        Some(sum) => {
-            let counts = Counts {
-                inner: sum.inner,
-                lead: sum.lead,
-                trail: sum.trail,
-            };
-            (sum.marks(), counts)
-        }
-        None => {
-            let counts = Counts {
-                inner: 0,
-                lead: 0,
-                trail: 0,
-            };
-            (NOT_KNOWN, counts)
-        }
+    Counts {
+        inner: sum.inner,
+        lead: sum.lead,
+        trail: sum.trail,
     }
 }
 
-// The summary of these marks and numbers, if it is known.
+/// The marks and the numbers of what is known.
 #[inline(always)]
-fn unpacked(marks: u8, counts: Counts) -> Option<Summary>
-    ensures { (d : Tree) (m : Mode) → Keeps marks counts d m → IsModeSummary result d m }
+pub fn packed(known: Known) -> (u8, Counts)
+    ensures { (d : Tree) (m : Mode) → IsKnown known d m → Keeps result.0 result.1 d m }
 {
-    if marks == NOT_KNOWN {
-        return None;
+    match known {
+        Known::Whole(sum) => (sum.marks(), counts_of(sum)),
+        Known::Begins(sum) => (sum.marks() + BEGINS, counts_of(sum)),
     }
-    Some(Summary::unpacked(counts.lead, counts.inner, counts.trail, marks))
 }
 
-/// The summary in a mode, of those that a cell keeps. `None` says that it is not known.
+// What is known by these marks and numbers.
 #[inline(always)]
-pub fn kept(
-    mode: Mode,
-    flat_marks: u8,
-    flat: Counts,
-    broken_marks: u8,
-    broken: Counts,
-) -> Option<Summary>
-    ensures { (d : Tree) → Keeps flat_marks flat d Flat → Keeps broken_marks broken d Break → IsModeSummary result d mode }
+fn unpacked(marks: u8, counts: Counts) -> Known
+    ensures { (d : Tree) (m : Mode) → Keeps marks counts d m → IsKnown result d m }
+{
+    if marks < BEGINS {
+        return Known::Whole(Summary::unpacked(counts.lead, counts.inner, counts.trail, marks));
+    }
+    Known::Begins(Summary::unpacked(counts.lead, counts.inner, counts.trail, marks - BEGINS))
+}
+
+/// What is known of a mode, of what a cell keeps.
+#[inline(always)]
+pub fn kept(mode: Mode, flat_marks: u8, flat: Counts, broken_marks: u8, broken: Counts) -> Known
+    ensures { (d : Tree) → Keeps flat_marks flat d Flat → Keeps broken_marks broken d Break → IsKnown result d mode }
 {
     match mode {
         Mode::Flat => unpacked(flat_marks, flat),
@@ -131,15 +125,15 @@ pub fn leaf_sums<N: Walk>(node: &N) -> Sums
     ensures { AreDocumentSums result (N.tree node.now) }
 {
     Sums {
-        flat: Some(leaf_summary(node, Mode::Flat)),
-        broken: Some(leaf_summary(node, Mode::Break)),
+        flat: Known::Whole(leaf_summary(node, Mode::Flat)),
+        broken: Known::Whole(leaf_summary(node, Mode::Break)),
     }
 }
 
-/// The summary in a mode, of those of a node.
+/// What is known of a node in a mode.
 #[inline(always)]
-pub fn in_mode(sums: Sums, mode: Mode) -> Option<Summary>
-    ensures { (d : Tree) → AreDocumentSums sums d → IsModeSummary result d mode }
+pub fn in_mode(sums: Sums, mode: Mode) -> Known
+    ensures { (d : Tree) → AreDocumentSums sums d → IsKnown result d mode }
 {
     match mode {
         Mode::Flat => sums.flat,
@@ -154,7 +148,7 @@ pub fn of_single(kind: Single, inner: Sums) -> Sums
 {
     match kind {
         Single::LineSuffix => {
-            let suffix = Some(Summary::suffix());
+            let suffix = Known::Whole(Summary::suffix());
             Sums {
                 flat: suffix,
                 broken: suffix,
@@ -186,15 +180,15 @@ pub fn of_pair(kind: Pair, first: Sums, second: Sums) -> Sums
             flat: first.flat,
             broken: second.broken,
         },
-        Pair::Chosen(_) => NO_SUMS,
+        Pair::Chosen(_) => {
+            let begins = Known::Begins(Summary::nothing());
+            Sums {
+                flat: begins,
+                broken: begins,
+            }
+        }
     }
 }
-
-// No summaries: a probe of a choice by column or nesting depends on more than the line.
-const NO_SUMS: Sums = Sums {
-    flat: None,
-    broken: None,
-};
 
 /// The summaries of a small document.
 #[inline(always)]

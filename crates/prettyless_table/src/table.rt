@@ -10,7 +10,7 @@ use crate::cell::Cell;
 use crate::sums::{Sums, in_mode, leaf_sums, of_pair, of_single, packed, small_sums};
 use prettyless_model::mode::Mode;
 use prettyless_probe::walk::{View, Walk};
-use prettyless_summary::summary::Summary;
+use prettyless_summary::known::Known;
 use std::alloc::{AllocError, Global};
 
 /// How many cells a table has at most: the place of each fits 32 bits, and so does the number after it.
@@ -45,7 +45,8 @@ pub struct Table<N> {
 
 impl<N: Walk> Table<N> {
     ghost use Rattle.std.specs.Prelude.{◌+◌, ◌-◌, ◌≤◌, ◌<◌, ◌++◌, length, map, IfOk};
-    ghost use Rattle.prettyless_table.specs.Sums.{AreDocumentSums, IsModeSummary};
+    ghost use Rattle.prettyless_summary.specs.Known.{IsKnown};
+    ghost use Rattle.prettyless_table.specs.Sums.{AreDocumentSums};
     ghost use Rattle.prettyless_table.specs.Cells.{CellsGrow, IsRoot, CellsAreSound, KeepsBoth, second_at, second_of, tree_at, cell_trees};
     ghost use Rattle.prettyless_table.specs.Stored.{FirstIn, HasAt, SecondIn};
     ghost use Rattle.prettyless_table.specs.Owners.{AreFound, WaitsInTable, all_owners, keepers};
@@ -86,16 +87,16 @@ impl<N: Walk> Table<N> {
         self.cells[at as usize].second()
     }
 
-    /// The summary of a node in a mode, if it is known.
+    /// What is known of a node in a mode.
     #[inline(always)]
-    pub(crate) fn summary(&self, node: &N, at: u32, mode: Mode) -> Option<Summary>
+    pub(crate) fn known(&self, node: &N, at: u32, mode: Mode) -> Known
         requires { In self.now.cells.items (N.tree node.now) at }
-        ensures { IsModeSummary result (N.tree node.now) mode }
+        ensures { IsKnown result (N.tree node.now) mode }
     {
         if is_small(node) {
             return in_mode(small_sums(node), mode);
         }
-        self.cells[at as usize].summary(mode)
+        self.cells[at as usize].known(mode)
     }
 
     // The summaries of a node.
@@ -109,8 +110,8 @@ impl<N: Walk> Table<N> {
         }
         let cell = &self.cells[at as usize];
         Sums {
-            flat: cell.summary(Mode::Flat),
-            broken: cell.summary(Mode::Break),
+            flat: cell.known(Mode::Flat),
+            broken: cell.known(Mode::Break),
         }
     }
 

@@ -1,16 +1,15 @@
-use Rattle.std.proofs.Common.{ℕ, ◌++◌, ◌+◌, ◌∙◌, ◌&&◌, ap, subst, sym, true}
-use Rattle.prettyless_model.specs.Tree.{size}
+use Rattle.std.proofs.Common.{ℕ, ◌++◌, ◌+◌, ◌∙◌, ap, subst, sym, true}
 use Rattle.prettyless_model.specs.Look.{Look, answer_of}
 use Rattle.prettyless_summary.specs.Summary.{has_summary}
-use Rattle.prettyless_summary.proofs.Has.{found_none, found_some, only_second}
+use Rattle.prettyless_summary.proofs.Has.{found_begins, found_whole}
 use Rattle.prettyless_probe.specs.Probing.{ReadsAs}
 use Rattle.prettyless_probe.specs.Stack.{stack_of, tasks_fit}
 use Rattle.prettyless_probe.specs.Reads.{read_after, reads_all}
 use Rattle.prettyless_probe.proofs.Counting.{if_ok, reads_by_one}
 use Rattle.prettyless_probe.proofs.summed.read_one.Goals as goal
 
-pub returns-in-Some-clause-answer : goal.returns-in-Some-clause-answer
-returns-in-Some-clause-answer g c ts =
+pub returns-in-Whole-clause-answer : goal.returns-in-Whole-clause-answer
+returns-in-Whole-clause-answer g c ts =
     let f = g.N.Walk.tree in
     let w = c.args.width in
     let line = c.args.line.now in
@@ -18,11 +17,11 @@ returns-in-Some-clause-answer g c ts =
     let new = c.read_by.new.line in
     subst (λ x. ReadsAs f w c.read_by.result x after new.column new.pending)
     (ap (λ (x : Look). answer_of x (λ e q. tasks_fit w after e q))
-    (c.in-Some.ensures.known c.args.indent w line.column line.pending))
+    (c.in-Whole.ensures.known c.args.indent w line.column line.pending))
     (c.read_by.ensures.answer after)
 
-pub returns-in-Some-clause-reads : goal.returns-in-Some-clause-reads
-returns-in-Some-clause-reads g c next on few =
+pub returns-in-Whole-clause-reads : goal.returns-in-Whole-clause-reads
+returns-in-Whole-clause-reads g c next on few =
     let f = g.N.Walk.tree in
     let w = c.args.width in
     let i = c.args.indent in
@@ -30,18 +29,16 @@ returns-in-Some-clause-reads g c next on few =
     let d = f c.args.node in
     let line = c.args.line.now in
     let ts = stack_of f c.args.stack.now in
-    let found = found_some (g.N.Walk.HAS_SUMMARIES && has_summary d m) (size d) c.in-Some.summary (c.in-Some.ensures.exact few) in
-    reads_by_one w i m d ts next line.column line.pending (only_second g.N.Walk.HAS_SUMMARIES (has_summary d m) on found.0)
+    let found = found_whole (has_summary d m) c.in-Whole.summary d m (c.in-Whole.ensures.found on few) in
+    reads_by_one w i m d ts next line.column line.pending found.0
     ∙ ap (λ (x : Look). 1 + read_after x (reads_all true w ts next))
-    (sym (c.in-Some.ensures.known i w line.column line.pending))
+    (sym (c.in-Whole.ensures.known i w line.column line.pending))
     ∙ ap (λ (n : ℕ). 1 + n) (c.read_by.ensures.reads ts next)
 
-pub returns-in-None-clause-reads : goal.returns-in-None-clause-reads
-returns-in-None-clause-reads g c =
+pub returns-in-Begins-clause-reads : goal.returns-in-Begins-clause-reads
+returns-in-Begins-clause-reads g c =
     let m = c.args.mode in
     let d = g.N.Walk.tree c.args.node in
-    let has = g.N.Walk.HAS_SUMMARIES in
     if_ok c.probe_one.result _ _
-    (λ a reads next on few. reads true next
-    (only_second has (has_summary d m) on (found_none (has && has_summary d m) (size d) (c.in-None.ensures.exact few))))
+    (λ a reads next on few. reads true next (found_begins (has_summary d m) _ d m (c.in-Begins.ensures.found on few)))
     c.probe_one.ensures.reads

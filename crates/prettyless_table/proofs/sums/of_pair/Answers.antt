@@ -1,14 +1,11 @@
 use Rattle.std.proofs.Common.{inl, inr}
-use Rattle.prettyless_model.specs.declared.mode.Mode.TheVariants.{Break, Flat}
-use Rattle.prettyless_table.proofs.Summing.{sums_append, sums_break_or_flat, sums_partial_union, sums_union}
+use Rattle.prettyless_table.proofs.Summing.{sums_break_or_flat, sums_partial_union, sums_union}
 use Rattle.prettyless_table.proofs.sums.of_pair.Goals as goal
 
 pub returns-in-Append : goal.returns-in-Append
 returns-in-Append c = λ d e h k. rw c.in-Append.is (record {
-  flat = sums_append c.args.first.flat c.args.second.flat c.appended.result d e Flat h.flat k.flat
-      (c.appended.ensures.known d e Flat h.flat.known k.flat.known) c.appended.ensures.exact;
-  broken = sums_append c.args.first.broken c.args.second.broken c.appended-in-Append.result d e Break h.broken k.broken
-      (c.appended-in-Append.ensures.known d e Break h.broken.known k.broken.known) c.appended-in-Append.ensures.exact;
+  flat = c.appended.ensures d e _ h.flat k.flat;
+  broken = c.appended-in-Append.ensures d e _ h.broken k.broken;
 })
 
 pub returns-in-BreakOrFlat : goal.returns-in-BreakOrFlat

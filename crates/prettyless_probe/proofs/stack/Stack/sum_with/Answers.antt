@@ -1,8 +1,8 @@
-use Rattle.std.proofs.Common.{◌≡◌, ◌+◌, ◌&&◌, ◌<◌, ◌^◌, ap, arith, length}
+use Rattle.std.proofs.Common.{◌≡◌, ◌+◌, ◌<◌, ◌^◌, ap, arith, length}
 use Rattle.prettyless_model.specs.Tree.{size}
 use Rattle.prettyless_model.specs.declared.mode.Mode.TheVariants.{Break}
 use Rattle.prettyless_summary.specs.Summary.{has_summary}
-use Rattle.prettyless_summary.proofs.Has.{found_none, found_some, only_second}
+use Rattle.prettyless_summary.proofs.Has.{found_begins, found_whole}
 use Rattle.prettyless_probe.specs.Stack.{make_task, nodes, stack_of}
 use Rattle.prettyless_probe.proofs.Stacks.{length-stack_of}
 use Rattle.prettyless_probe.proofs.Sums.{long_all, run_more, run_of_none, sum_nothing, sum_own, sum_then, sum_top}
@@ -16,7 +16,7 @@ returns-in_default g c i m h =
     let d = f c.args.node.now in
     sum_nothing c.nothing.result (c.len-height.result + 1) (make_task i m d) (stack_of f s)
     (omega (arith, length-stack_of f s, s.nodes.ok.0, c.len-height.ensures)) c.nothing.ensures.reads c.nothing.ensures.small
-    (λ few. only_second has (has_summary d Break) c.requires (found_none (has && has_summary d Break) (size d) (c.in_default.ensures.exact few)))
+    (λ few. found_begins (has_summary d Break) c.in_default.field-0 d Break (c.in_default.ensures.found c.requires few))
 
 pub returns-in_default-last : goal.returns-in_default-last
 returns-in_default-last g c i m h =
@@ -31,11 +31,11 @@ returns-in_default-last g c i m h =
       c.in_default-last.ensures.item.3,
       length-stack_of f s,
     ) in
-    sum_own c.in-Some.own c.len-height.result i m d (stack_of f s)
-    (omega (arith, length-stack_of f s, s.nodes.ok.0, c.len-height.ensures)) c.in-Some.ensures.known
+    sum_own c.in-Whole.own c.len-height.result i m d (stack_of f s)
+    (omega (arith, length-stack_of f s, s.nodes.ok.0, c.len-height.ensures)) c.in-Whole.ensures.known
     (λ few.
-    let own = found_some (has && has_summary d Break) (size d) c.in-Some.own (c.in-Some.ensures.exact (omega (arith, few))) in
-    let more = run_more (make_task i m d) (stack_of f s) (only_second has (has_summary d Break) c.requires own.0) in (
+    let own = found_whole (has_summary d Break) c.in-Whole.own d Break (c.in-Whole.ensures.found c.requires (omega (arith, few))) in
+    let more = run_more (make_task i m d) (stack_of f s) own.0 in (
       omega (arith, ap length more, run_of_none (stack_of f s) none, none, length-stack_of f s, s.nodes.ok.0, c.len-height.ensures),
       own.1,
     ))
@@ -46,12 +46,12 @@ returns-in-Some-then g c i m h =
     let has = g.N.Walk.HAS_SUMMARIES in
     let s = c.args.self.now in
     let d = f c.args.node.now in
-    let b = c.in-Some-last.below.now in
-    let item = c.in-Some-last.ensures.item in
+    let b = c.in-Some.below.now in
+    let item = c.in-Some.ensures.item in
     let under = sum_top has f s c.deref.result.now b h c.deref.ensures.value item.3.0 item.1 in
-    let own = λ (few : size d < 2 ^ 32). found_some (has && has_summary d Break) (size d) c.in-Some.own (c.in-Some.ensures.exact few) in
-    sum_then c.in-Some.own i m d (stack_of f s) c.in-Some.ensures.known under c.in-Some-then.ensures.reads
-    (λ few. only_second has (has_summary d Break) c.requires (own few).0)
+    let own = λ (few : size d < 2 ^ 32). found_whole (has_summary d Break) c.in-Whole.own d Break (c.in-Whole.ensures.found c.requires few) in
+    sum_then c.in-Whole.own i m d (stack_of f s) c.in-Whole.ensures.known under c.in-Some-then.ensures.reads
+    (λ few. (own few).0)
     (λ few small. c.in-Some-then.ensures.small (size d) (nodes (stack_of f s)) few (own (omega (arith, few))).1 small)
 
 pub returns-in-None : goal.returns-in-None
@@ -60,11 +60,11 @@ returns-in-None g c i m h =
     let has = g.N.Walk.HAS_SUMMARIES in
     let s = c.args.self.now in
     let d = f c.args.node.now in
-    let b = c.in-Some-last.below.now in
-    let item = c.in-Some-last.ensures.item in
+    let b = c.in-Some.below.now in
+    let item = c.in-Some.ensures.item in
     let under = sum_top has f s c.deref.result.now b h c.deref.ensures.value item.3.0 item.1 in
-    sum_own c.in-Some.own c.len-height.result i m d (stack_of f s) (omega (arith, length-stack_of f s, s.nodes.ok.0, c.len-height.ensures))
-    c.in-Some.ensures.known
+    sum_own c.in-Whole.own c.len-height.result i m d (stack_of f s) (omega (arith, length-stack_of f s, s.nodes.ok.0, c.len-height.ensures))
+    c.in-Whole.ensures.known
     (λ few. absurd (c.in-None.ensures.small (size d) (nodes (stack_of f s)) few
-    (found_some (has && has_summary d Break) (size d) c.in-Some.own (c.in-Some.ensures.exact (omega (arith, few)))).1
+    (found_whole (has_summary d Break) c.in-Whole.own d Break (c.in-Whole.ensures.found c.requires (omega (arith, few)))).1
     (under.run (omega (arith, few))).1))
