@@ -8,7 +8,7 @@ use Rattle.prettyless_model.specs.declared.mode.Mode.TheVariants.{Break, Flat}
 use Rattle.prettyless_summary.specs.Known.{IsKnown}
 use Rattle.prettyless_summary.specs.declared.known.Known.{Known}
 use Rattle.prettyless_table.specs.declared.cell.Cell.{Cell}
-use Rattle.prettyless_table.specs.declared.cell.Cell.TheVariants.{Sums, Root}
+use Rattle.prettyless_table.specs.declared.cell.Cell.TheVariants.{Root, Sums, Wide}
 use Rattle.prettyless_table.specs.Parts.{shares, small}
 use Rattle.prettyless_table.specs.Cells.{HasCell, In, KeepsBoth, part_at}
 use Rattle.prettyless_table.specs.Stored.{Serves}
@@ -19,6 +19,7 @@ use Rattle.prettyless_table.proofs.Summing.{known_group, known_indented}
 
 both_as : {N : Type 0} (c : Cell N) (d e : Tree) → ((k : Known) (m : Mode) → IsKnown k d m → IsKnown k e m) → KeepsBoth c d → KeepsBoth c e
 both_as (Sums a b second flat broken) d e via h = (λ k s. via k Flat (h.0 k s), λ k s. via k Break (h.1 k s))
+both_as (Wide second sums) d e via h = record { flat = via sums.value.flat Flat h.flat; broken = via sums.value.broken Break h.broken }
 both_as (Root place n) d e via h = h
 
 cell_as : {N : Type 0} (cells : List (Cell N)) (at : ℕ) (d e : Tree) → ((k : Known) (m : Mode) → IsKnown k d m → IsKnown k e m)

@@ -4,7 +4,7 @@ use Rattle.std.proofs.Common.{length, drop, get_or, map, reverse, ap, subst, sym
 use Rattle.std.proofs.lemmas.List.{drop_more, reverse-append}
 use Rattle.prettyless_model.specs.Tree.{Tree}
 use Rattle.prettyless_table.specs.declared.cell.Cell.{Cell}
-use Rattle.prettyless_table.specs.declared.cell.Cell.TheVariants.{Sums, Root}
+use Rattle.prettyless_table.specs.declared.cell.Cell.TheVariants.{Root, Sums, Wide}
 use Rattle.prettyless_table.specs.Parts.{parts_of, small, takes}
 use Rattle.prettyless_table.specs.Cells.{In, IsPlaced, KeepsBoth, second_of}
 use Rattle.prettyless_table.specs.Stored.{SecondIn}
@@ -158,6 +158,7 @@ is_next {N} f cells ns k n places ds list read h =
 -- a cell of summaries has no document to stand anywhere
 pub keeps_placed : {N : Type 0} (f : N → Tree) (cells : List (Cell N)) (c : Cell N) (d : Tree) → KeepsBoth c d → IsPlaced f cells c
 keeps_placed f cells (Sums a b second flat broken) d h = tt
+keeps_placed f cells (Wide second sums) d h = tt
 keeps_placed f cells (Root place n) d h = absurd h
 
 -- a node gets its cell, and waits

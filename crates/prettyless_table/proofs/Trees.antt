@@ -5,7 +5,7 @@ use Rattle.std.proofs.lemmas.List.{get_or_push, get_or_append_left}
 use Rattle.std.proofs.Math.Nat.{eq-or-lt_of_le}
 use Rattle.prettyless_model.specs.Tree.{Tree}
 use Rattle.prettyless_table.specs.declared.cell.Cell.{Cell}
-use Rattle.prettyless_table.specs.declared.cell.Cell.TheVariants.{Sums, Root}
+use Rattle.prettyless_table.specs.declared.cell.Cell.TheVariants.{Root, Sums, Wide}
 use Rattle.prettyless_table.specs.Stored.{HasAt}
 use Rattle.prettyless_table.specs.Cells.{HasRoot, IsRoot, no_cell, root_tree, tree_or_nil, cell_trees, tree_at, IsPlaced, CellsAreSound}
 use Rattle.prettyless_table.specs.Cells.{CellsGrow}
@@ -32,6 +32,7 @@ has_new f cells place n = record {
 cell_root : {N : Type 0} (f : N → Tree) (c : Cell N) (d : Tree) → root_tree f c ≡ Some d → HasRoot c
 cell_root f (Root place n) d e = tt
 cell_root f (Sums a b second flat broken) d e = cc
+cell_root f (Wide second sums) d e = cc
 
 get_or-trees : {N : Type 0} (f : N → Tree) (cells : List (Cell N)) (i : ℕ) (x : Cell N) → i < length cells
     → get_or (cell_trees f cells) i None ≡ root_tree f (get_or cells i x)
@@ -70,6 +71,7 @@ root_stays {N} f old new i g h = record {
 placed_stays : {N : Type 0} (f : N → Tree) (cells : List (Cell N)) (c x : Cell N) → IsPlaced f cells x → IsPlaced f (cells ++ c ∷ []) x
 placed_stays f cells c (Root place n) h = stays cells c (f n) place h
 placed_stays f cells c (Sums a b second flat broken) h = h
+placed_stays f cells c (Wide second sums) h = h
 
 -- one more cell leaves all documents where they stand
 sound_more : {N : Type 0} (f : N → Tree) (cells : List (Cell N)) (c : Cell N) → IsPlaced f cells c → CellsAreSound f cells

@@ -5,14 +5,14 @@ use Rattle.prettyless_model.specs.Tree.{Tree, Nil, One, Two}
 use Rattle.prettyless_model.specs.declared.mode.Mode.TheVariants.{Break, Flat}
 use Rattle.prettyless_table.specs.declared.sums.Counts.{Counts}
 use Rattle.prettyless_table.specs.declared.cell.Cell.{Cell}
-use Rattle.prettyless_table.specs.declared.cell.Cell.TheVariants.{Sums, Root}
-use Rattle.prettyless_table.specs.Sums.{Keeps, Keeps-prop}
+use Rattle.prettyless_table.specs.declared.cell.Cell.TheVariants.{Root, Sums, Wide}
+use Rattle.prettyless_table.specs.Sums.{AreDocumentSums, DocumentSums-prop, Keeps, Keeps-prop}
 use Rattle.prettyless_table.specs.Parts.{shares, small}
 
 -- the document that was stored before a cell, if the cell is for one
 abbrev pub root_tree : {N : Type 0} → (N → Tree) → Cell N → Option Tree
 root_tree f (Root place n) = Some (f n)
-root_tree f (Sums a b second flat broken) = None
+root_tree f _ = None
 
 -- the documents of cells
 abbrev pub cell_trees : {N : Type 0} → (N → Tree) → List (Cell N) → List (Option Tree)
@@ -31,7 +31,7 @@ tree_at f cells i = tree_or_nil (get_or (cell_trees f cells) i None)
 -- a cell is for a document
 abbrev pub HasRoot : {N : Type 0} → Cell N → Type 0
 HasRoot (Root place n) = ⊤
-HasRoot (Sums a b second flat broken) = ⊥
+HasRoot _ = ⊥
 
 -- the cell at a place is
 pub record IsRoot {N : Type 0} (cells : List (Cell N)) (at : ℕ) : Type 0 where
@@ -41,6 +41,7 @@ pub record IsRoot {N : Type 0} (cells : List (Cell N)) (at : ℕ) : Type 0 where
 -- the summaries that a cell keeps are those of this tree
 abbrev pub KeepsBoth : {N : Type 0} → Cell N → Tree → Type 0
 KeepsBoth (Sums a b second flat broken) d = Keeps a flat d Flat × Keeps b broken d Break
+KeepsBoth (Wide second sums) d = AreDocumentSums sums.value d
 KeepsBoth (Root place n) d = ⊥
 
 -- and those of the cell at a place
@@ -51,6 +52,7 @@ pub record HasCell {N : Type 0} (cells : List (Cell N)) (at : ℕ) (d : Tree) : 
 -- the place of a second part that a cell keeps
 abbrev pub second_of : {N : Type 0} → Cell N → ℕ
 second_of (Sums a b second flat broken) = second
+second_of (Wide second sums) = second
 second_of (Root place n) = 0
 
 -- and that of the cell at a place
@@ -84,7 +86,7 @@ In cells _ at = ⊤
 -- a document that was stored stands where its cell says
 abbrev pub IsPlaced : {N : Type 0} → (N → Tree) → List (Cell N) → Cell N → Type 0
 IsPlaced f cells (Root place n) = In cells (f n) place
-IsPlaced f cells (Sums a b second flat broken) = ⊤
+IsPlaced f cells _ = ⊤
 
 -- each document that was stored does
 abbrev pub CellsAreSound : {N : Type 0} → (N → Tree) → List (Cell N) → Type 0
@@ -92,6 +94,7 @@ CellsAreSound {N} f cells = (i : ℕ) (c : Cell N) → i < length cells → IsPl
 
 KeepsBoth-prop : {N : Type 0} (c : Cell N) (d : Tree) → IsProp (KeepsBoth c d)
 KeepsBoth-prop (Sums a b second flat broken) d = ×_prop (Keeps-prop a flat d Flat) (Keeps-prop b broken d Break)
+KeepsBoth-prop (Wide second sums) d = DocumentSums-prop sums.value d
 KeepsBoth-prop (Root place n) d = hlevel
 
 HasCell-prop : {N : Type 0} (cells : List (Cell N)) (at : ℕ) (d : Tree) → IsProp (HasCell cells at d)

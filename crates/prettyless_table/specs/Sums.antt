@@ -1,5 +1,5 @@
 -- What a table knows of a document: its summaries, and how cells keep them.
-use Rattle.std.specs.Prelude.{◌≡◌, refl, ℕ, ◌-◌, ◌<◌, ◌≤◌, Bool, true, false}
+use Rattle.std.specs.Prelude.{◌≡◌, refl, ℕ, ◌-◌, ◌^◌, ◌<◌, ◌≤◌, Bool, true, false}
 use Rattle.std.specs.Coded.{le_prop}
 use Rattle.std.proofs.Math.Nat.{ℕ_set}
 use ghost.Sets.{retract_set}
@@ -22,6 +22,11 @@ use Rattle.prettyless_table.specs.declared.sums.Sums.{Sums}
 pub record AreDocumentSums (s : Sums) (d : Tree) : Type 0 where
   pub flat : IsKnown s.flat d Flat
   pub broken : IsKnown s.broken d Break
+
+-- the numbers of what is known fit 32 bits
+abbrev pub Fits : Known → Type 0
+Fits (Whole s) = s.inner < 2 ^ 32
+Fits (Begins s) = s.inner < 2 ^ 32
 
 -- the only summary that has these marks and numbers
 abbrev pub IsOnly : ℕ → Counts → Summary → Type 0
@@ -68,3 +73,6 @@ IsKnown-prop k d m = hlevel (Holds-prop k d m, FoundIf-prop)
 
 pub Keeps-prop : (marks : ℕ) (counts : Counts) (d : Tree) (m : Mode) → IsProp (Keeps marks counts d m)
 Keeps-prop marks counts d m = hlevel (λ (k : Known). IsKnown-prop k d m)
+
+pub DocumentSums-prop : (s : Sums) (d : Tree) → IsProp (AreDocumentSums s d)
+DocumentSums-prop s d = hlevel (λ (k : Known) (m : Mode). IsKnown-prop k d m)

@@ -1,6 +1,6 @@
 //! The summaries of a node, made of those of its parts, and how a cell keeps them.
 //! This file knows the parts of nodes, and no table.
-ghost use Rattle.std.specs.Prelude.{◌≡◌, [], false, true};
+ghost use Rattle.std.specs.Prelude.{◌≡◌, ◌↔◌, ◌<◌, ◌^◌, [], false, true, IsTrue};
 ghost use Rattle.prettyless_model.specs.Tree.{One, Tree, Two};
 ghost use Rattle.prettyless_model.specs.Look.{Answers};
 ghost use Rattle.prettyless_model.specs.declared.mode.Mode.{Mode};
@@ -8,7 +8,7 @@ ghost use Rattle.prettyless_model.specs.declared.mode.Mode.TheVariants.{Break, F
 ghost use Rattle.prettyless_summary.specs.Summary.{IsSmall, ReadsLook, Summarizes};
 ghost use Rattle.prettyless_table.specs.Parts.{parts_of, small};
 ghost use Rattle.prettyless_summary.specs.Known.{IsKnown};
-ghost use Rattle.prettyless_table.specs.Sums.{AreDocumentSums, Keeps};
+ghost use Rattle.prettyless_table.specs.Sums.{AreDocumentSums, Fits, Keeps};
 
 use prettyless_model::kind::{Pair, Single};
 use prettyless_model::mode::Mode;
@@ -23,11 +23,11 @@ pub struct Sums {
     pub broken: Known,
 }
 
-/// The numbers of a summary, in columns, as `Summary` has them.
+/// The numbers of a summary, in columns, as `Summary` has them, where they fit 32 bits.
 #[derive(Clone, Copy)]
 pub struct Counts {
-    /// From the first ink to the last, with the weak spaces between, or the greatest `usize`.
-    pub inner: usize,
+    /// From the first ink to the last, with the weak spaces between.
+    pub inner: u32,
     /// Weak spaces before the weak line that comes first; where there is none, before the first ink, or all.
     pub lead: u32,
     /// Weak spaces after the last ink.
@@ -37,15 +37,26 @@ pub struct Counts {
 /// What is added to the marks of a summary of what a document begins with.
 const BEGINS: u8 = 64;
 
+/// Whether the numbers of what is known fit 32 bits.
+#[inline(always)]
+pub fn fits(known: Known) -> bool
+    ensures { IsTrue result ↔ Fits known }
+{
+    match known {
+        Known::Whole(sum) | Known::Begins(sum) => sum.inner <= u32::MAX as usize,
+    }
+}
+
 // The numbers of a summary.
 #[inline(always)]
 fn counts_of(sum: Summary) -> Counts
+    requires { sum.inner < 2 ^ 32 }
     ensures lead { result.lead ≡ sum.lead }
     ensures inner { result.inner ≡ sum.inner }
     ensures trail { result.trail ≡ sum.trail }
 {
     Counts {
-        inner: sum.inner,
+        inner: sum.inner as u32,
         lead: sum.lead,
         trail: sum.trail,
     }
@@ -54,6 +65,7 @@ fn counts_of(sum: Summary) -> Counts
 /// The marks and the numbers of what is known.
 #[inline(always)]
 pub fn packed(known: Known) -> (u8, Counts)
+    requires { Fits known }
     ensures { (d : Tree) (m : Mode) → IsKnown known d m → Keeps result.0 result.1 d m }
 {
     match known {
@@ -68,9 +80,19 @@ fn unpacked(marks: u8, counts: Counts) -> Known
     ensures { (d : Tree) (m : Mode) → Keeps marks counts d m → IsKnown result d m }
 {
     if marks < BEGINS {
-        return Known::Whole(Summary::unpacked(counts.lead, counts.inner, counts.trail, marks));
+        return Known::Whole(Summary::unpacked(
+            counts.lead,
+            counts.inner as usize,
+            counts.trail,
+            marks,
+        ));
     }
-    Known::Begins(Summary::unpacked(counts.lead, counts.inner, counts.trail, marks - BEGINS))
+    Known::Begins(Summary::unpacked(
+        counts.lead,
+        counts.inner as usize,
+        counts.trail,
+        marks - BEGINS,
+    ))
 }
 
 /// What is known of a mode, of what a cell keeps.

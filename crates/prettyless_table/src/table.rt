@@ -7,7 +7,7 @@ ghost use Rattle.prettyless_table.specs.Parts.{parts_of};
 
 use crate::below::{Parts, is_small, parts_below};
 use crate::cell::Cell;
-use crate::sums::{Sums, in_mode, leaf_sums, of_pair, of_single, packed, small_sums};
+use crate::sums::{Sums, in_mode, leaf_sums, of_pair, of_single, small_sums};
 use prettyless_model::mode::Mode;
 use prettyless_probe::walk::{View, Walk};
 use prettyless_summary::known::Known;
@@ -72,7 +72,7 @@ impl<N: Walk> Table<N> {
     {
         match self.cells[at as usize] {
             Cell::Root(place, node) => (node, place),
-            Cell::Sums { .. } => unreachable!(),
+            Cell::Sums { .. } | Cell::Wide(_, _) => unreachable!(),
         }
     }
 
@@ -143,26 +143,6 @@ impl<N: Walk> Table<N> {
         }
     }
 
-    // The cell of a node whose parts are stored: the first one last, and the second one at this place.
-    fn cell_of(&self, node: &N, second: u32) -> Cell<N>
-        requires most { length self.now.cells.items ≤ MOST_CELLS }
-        requires first { FirstIn self.now.cells.items (length self.now.cells.items - 1) (parts_of (N.tree node.now)) }
-        requires second { SecondIn self.now.cells.items second (parts_of (N.tree node.now)) }
-        ensures keeps { KeepsBoth result (N.tree node.now) }
-        ensures second { second_of result ≡ second }
-    {
-        let sums = self.node_sums(node, second);
-        let (flat_marks, flat) = packed(sums.flat);
-        let (broken_marks, broken) = packed(sums.broken);
-        Cell::Sums {
-            flat_marks,
-            broken_marks,
-            second,
-            flat,
-            broken,
-        }
-    }
-
     // The place of the second part of a node, whose parts stand in the table. Of documents that wait in the table the last one has the
     // last cell, and `waiting` has the places of all others. Where the node has none of them below it, the last one goes on waiting.
     #[inline(always)]
@@ -208,7 +188,8 @@ impl<N: Walk> Table<N> {
             k -= 1;
             let node = owners[k];
             let second = self.second_place(&node, &mut waiting)?;
-            let cell = self.cell_of(&node, second);
+            let sums = self.node_sums(&node, second);
+            let cell = Cell::of_sums(alloc, sums, second)?;
             self.cells.push(cell)?;
         }
         waiting.push(self.last())?;

@@ -7,8 +7,8 @@ use Rattle.prettyless_table.proofs.Trees.{grows, grows_then}
 use Rattle.prettyless_table.proofs.Standing.{goes_on, is_next, keeps_placed, list_fits, read_back, reverse_push, stand_large, waits_next}
 use Rattle.prettyless_table.proofs.table.Table.fill.Goals as goal
 
-pub cell_of-cell-requires-clause-first : goal.cell_of-cell-requires-clause-first
-cell_of-cell-requires-clause-first g c =
+pub node_sums-sums-requires-clause-first : goal.node_sums-sums-requires-clause-first
+node_sums-sums-requires-clause-first g c =
     let f = g.N.Walk.tree in
     let ns = c.args.owners.items in
     let n = c.index.result.now in
@@ -18,8 +18,8 @@ cell_of-cell-requires-clause-first g c =
     c.owners.invariant.waits in
     (c.in_ok-second.ensures (drop (length (keepers (parts_of (f n)))) (waiting (map f (drop k ns)))) next.waits).first
 
-pub cell_of-cell-requires-clause-second : goal.cell_of-cell-requires-clause-second
-cell_of-cell-requires-clause-second g c =
+pub node_sums-sums-requires-clause-second : goal.node_sums-sums-requires-clause-second
+node_sums-sums-requires-clause-second g c =
     let f = g.N.Walk.tree in
     let ns = c.args.owners.items in
     let n = c.index.result.now in
@@ -33,7 +33,7 @@ pub owners-preserved : goal.owners-preserved
 owners-preserved g c =
     let f = g.N.Walk.tree in
     let cells = c.owners.self.cells.items in
-    let cell = c.cell_of-cell.result in
+    let cell = c.in_ok-cell.cell in
     let ns = c.args.owners.items in
     let n = c.index.result.now in
     let k = c.owners.k in
@@ -43,9 +43,10 @@ owners-preserved g c =
     let next = is_next f cells ns k n (reverse c.owners.waiting.items) c.requires.listed.0 c.requires.listed.1 read
     c.owners.invariant.waits in
     let found = c.in_ok-second.ensures rest next.waits in
+    let keeps = c.in_ok-cell.ensures.keeps (f n) c.node_sums-sums.ensures in
     let more : WaitsInTable (cells ++ cell ∷ []) (f n ∷ rest) places =
-    waits_next cells cell (f n) c.in_ok-second.second rest places next.takes found c.cell_of-cell.ensures.keeps
-    c.cell_of-cell.ensures.second in
+    waits_next cells cell (f n) c.in_ok-second.second rest places next.takes found keeps
+    c.in_ok-cell.ensures.second in
     let waits : WaitsInTable (cells ++ cell ∷ []) (waiting (map f (drop (k - 1) ns))) places =
     subst (λ (ms : List _). WaitsInTable (cells ++ cell ∷ []) (waiting (map f ms)) places) (sym read) more in
     record {
@@ -59,7 +60,7 @@ owners-preserved g c =
       );
       grows = rw c.in_ok-push.ensures.items
           (grows_then f c.args.self.now.cells.items cells (cells ++ cell ∷ []) c.owners.invariant.grows
-          (grows f cells cell (keeps_placed f cells cell (f n) c.cell_of-cell.ensures.keeps)));
+          (grows f cells cell (keeps_placed f cells cell (f n) keeps)));
       waits = rw c.in_ok-push.ensures.items waits;
     }
 
