@@ -23,18 +23,14 @@ pub fn put_text<'v, N: Walk>(printer: &mut Printer<N>, counted: usize, text: &'v
     ensures queue { printer.new.queue ≡ printer.old.queue }
 {
     if text.is_empty() {
-        return Piece::nothing();
+        return Piece::Nothing;
     }
     let gap = printer.column.gap();
     printer.column = printer.column.committed(counted);
     if printer.column.position > printer.options.width {
         printer.within = false;
     }
-    Piece {
-        gap,
-        text,
-        indent: 0,
-    }
+    Piece::Text(gap, text)
 }
 
 /// Whether a payload fits the line: its first part ends within the width, or is empty, and no later one is wider.
@@ -75,9 +71,5 @@ pub fn put_payload<'v, N: Walk>(
     };
     printer.within = printer.within && payload_fits(printer.options, printer.column, metrics);
     printer.column = after_payload(metrics);
-    Piece {
-        gap,
-        text,
-        indent: 0,
-    }
+    Piece::Text(gap, text)
 }

@@ -6,25 +6,14 @@ ghost use Rattle.prettyless_step.specs.Piece.{piece_bytes};
 use prettyless_sink::pieces::write_gap_and_text;
 use prettyless_sink::render::Render;
 
-/// What one node writes: a gap of spaces, a text, and the indent of a new line in spaces.
+/// What one node writes.
 #[derive(Clone, Copy)]
-pub struct Piece<'v> {
-    pub gap: usize,
-    pub text: &'v str,
-    pub indent: usize,
-}
-
-impl<'v> Piece<'v> {
-    /// Nothing.
-    pub fn nothing() -> Self
-        ensures { piece_bytes result ≡ [] }
-    {
-        Piece {
-            gap: 0,
-            text: "",
-            indent: 0,
-        }
-    }
+pub enum Piece<'v> {
+    Nothing,
+    /// A gap of so many spaces, and a text.
+    Text(usize, &'v str),
+    /// A line ending, and the indent of the new line, in spaces.
+    Line(&'static str, usize),
 }
 
 /// Writes a piece to a sink, or fails after a beginning of it.
@@ -36,9 +25,12 @@ pub fn write_piece<W: Render>(out: &mut W, piece: Piece<'_>) -> Result<(), W::Er
     ensures err { OnErr result (Refuses (W.bytes out.old) (W.bytes out.new) (piece_bytes piece.entry) (W.failures out.old)
         (W.failures out.new)) }
 {
-    write_gap_and_text(out, piece.gap, piece.text)?;
-    if piece.indent > 0 {
-        write_gap_and_text(out, piece.indent, "")?;
+    match piece {
+        Piece::Nothing => Ok(()),
+        Piece::Text(gap, text) => write_gap_and_text(out, gap, text),
+        Piece::Line(ending, indent) => {
+            write_gap_and_text(out, 0, ending)?;
+            write_gap_and_text(out, indent, "")
+        }
     }
-    Ok(())
 }

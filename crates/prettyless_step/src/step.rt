@@ -144,19 +144,11 @@ fn end_line<N: Walk>(printer: &mut Printer<N>, indent: usize) -> Piece<'static>
     match printer.options.indentation_policy {
         IndentationPolicy::Eager => {
             printer.column = Column::indented(next);
-            Piece {
-                gap: 0,
-                text,
-                indent: next,
-            }
+            Piece::Line(text, next)
         }
         IndentationPolicy::Deferred => {
             printer.column = Column::deferred(next);
-            Piece {
-                gap: 0,
-                text,
-                indent: 0,
-            }
+            Piece::Line(text, 0)
         }
     }
 }
@@ -179,11 +171,7 @@ fn flush_line<N: Walk>(
 {
     printer.commands.push(indent, mode, node)?;
     let gap = take_pending(printer, indent, mode)?;
-    Ok(Piece {
-        gap,
-        text: "",
-        indent: 0,
-    })
+    Ok(Piece::Text(gap, ""))
 }
 
 // A break: a hard one, or a weak one, which is nothing at the beginning of a line where no suffix is pending.
@@ -405,7 +393,9 @@ pub fn step<'v, N: Walk>(
             Mode::Flat => Ok(StepResult::Failed),
         },
         View::WeakSpace => {
-            printer.column = printer.column.blank();
+            if !printer.column.fresh {
+                printer.column.padding = printer.column.padding.saturating_add(1);
+            }
             Ok(StepResult::Silent)
         }
         View::HardLine => match mode {
