@@ -2,6 +2,7 @@ pub mod Summing
 pub mod Trees
 pub mod Cells
 pub mod Sharing
+pub mod Small
 pub mod Owners
 pub mod Standing
 pub mod Listing

@@ -1,32 +1,27 @@
 -- Nodes that take cells, as a count lists them.
 use Rattle.std.proofs.Common.{◌≡◌, ℕ, Bool, true, false, if◌then◌else◌, List, [], ◌∷◌, ◌++◌, map, refl, ap, ap₂, sym, ◌∙◌, append-nil}
 use Rattle.std.proofs.Common.{append_assoc}
-use Rattle.prettyless_model.specs.Tree.{Tree}
-use Rattle.prettyless_table.specs.Parts.{leaves, none, parts_of, small, takes}
+use Rattle.prettyless_model.specs.Tree.{Tree, Nil, One, Two}
+use Rattle.prettyless_table.specs.Parts.{parts_of, small, takes}
 use Rattle.prettyless_table.specs.Owners.{all_owners, owners_of, waiting_owners, with_own}
-use Rattle.prettyless_table.proofs.Owners.{and_first, and_second, none_leaves, owner, owners-is, owners_not}
+use Rattle.prettyless_table.proofs.Owners.{owner, owners-is, owners_not}
+use Rattle.prettyless_table.proofs.Small.{parts_small}
 
 takes_small_by : (d : Tree) (b : Bool) → takes d ≡ b → small d ≡ true → takes d ≡ false
 takes_small_by d true e h = absurd (cc (sym h ∙ (owner d e).large))
 takes_small_by d false e h = e
 
-no_parts : (ds : List Tree) → none ds ≡ true → ds ≡ []
-no_parts [] e = refl
-no_parts (d ∷ ds) e = cc
-
-leaf_owners : (d : Tree) → none (parts_of d) ≡ true → owners_of d ≡ []
-leaf_owners d e =
-    owners_not d (takes_small_by d (takes d) refl (none_leaves (parts_of d) e)) ∙ ap all_owners (no_parts (parts_of d) e)
-
-leaves_owners : (ds : List Tree) → leaves ds ≡ true → all_owners ds ≡ []
-leaves_owners [] e = refl
-leaves_owners (d ∷ ds) e =
-    ap₂ (λ xs ys. xs ++ ys) (leaf_owners d (and_first (none (parts_of d)) (leaves ds) e))
-    (leaves_owners ds (and_second (none (parts_of d)) (leaves ds) e))
-
 -- a small document takes no cells
 pub small_owners : (d : Tree) → small d ≡ true → owners_of d ≡ []
-small_owners d e = owners_not d (takes_small_by d (takes d) refl e) ∙ leaves_owners (parts_of d) e
+small_owners (One kind d) e =
+    owners_not (One kind d) (takes_small_by (One kind d) (takes (One kind d)) refl e)
+    ∙ ap (λ ds. ds ++ []) (small_owners d (parts_small (d ∷ []) e).0)
+small_owners (Two kind l r) e =
+    let parts = parts_small (l ∷ r ∷ []) e in
+    owners_not (Two kind l r) (takes_small_by (Two kind l r) (takes (Two kind l r)) refl e)
+    ∙ ap₂ (λ xs ys. xs ++ (ys ++ [])) (small_owners l parts.0) (small_owners r parts.1.0)
+small_owners Nil e = refl
+small_owners _ e = refl
 
 with_own_before : (b : Bool) (d : Tree) (ds rest : List Tree)
     → (if b then d ∷ ds else ds) ++ rest ≡ (if b then d ∷ (ds ++ rest) else ds ++ rest)

@@ -6,10 +6,11 @@ use Rattle.std.proofs.Math.Seq.{drop-append_seam}
 use Rattle.prettyless_model.specs.Tree.{Tree, Nil, One, Two, size}
 use Rattle.prettyless_model.specs.declared.kind.Single.{Single}
 use Rattle.prettyless_probe.proofs.Sizes.{size_positive}
-use Rattle.prettyless_table.specs.Parts.{leaves, none, parts_of, shares, small, takes, takes_own}
+use Rattle.prettyless_table.specs.Parts.{below_small, none, parts_of, shares, small, takes, takes_own}
 use Rattle.prettyless_table.specs.Stored.{IsOwn, IsSmallIf, Serves}
 use Rattle.prettyless_table.specs.Owners.{all_owners, keeper, keeper_by, keepers, owners_of, with_own}
 use Rattle.prettyless_table.proofs.Sharing.{serves_part}
+use Rattle.prettyless_table.proofs.Small.{AllSmall, none_small, parts_small}
 
 -- ---- The size of a tree
 
@@ -90,33 +91,19 @@ owner _ e = cc
 
 -- ---- Of which node a document has the cell
 
-pub none_leaves : (ds : List Tree) → none ds ≡ true → leaves ds ≡ true
-none_leaves [] e = refl
-none_leaves (d ∷ ds) e = cc
-
 pub keepers_small : (d : Tree) (ds : List Tree) → small d ≡ true → keepers (d ∷ ds) ≡ keepers ds
 keepers_small d ds e = ap (λ (b : Bool). if b then keepers ds else keeper d ∷ keepers ds) e
 
 pub keepers_large : (d : Tree) (ds : List Tree) → small d ≡ false → keepers (d ∷ ds) ≡ keeper d ∷ keepers ds
 keepers_large d ds e = ap (λ (b : Bool). if b then keepers ds else keeper d ∷ keepers ds) e
 
-pub and_first : (p q : Bool) → (p && q) ≡ true → p ≡ true
-and_first true q e = refl
-and_first false q e = cc
-
-pub and_second : (p q : Bool) → (p && q) ≡ true → q ≡ true
-and_second true q e = e
-and_second false q e = cc
-
--- trees without parts have no cells
-keepers_leaves : (ds : List Tree) → leaves ds ≡ true → keepers ds ≡ []
-keepers_leaves [] e = refl
-keepers_leaves (d ∷ ds) e =
-    keepers_small d ds (none_leaves (parts_of d) (and_first (none (parts_of d)) (leaves ds) e))
-    ∙ keepers_leaves ds (and_second (none (parts_of d)) (leaves ds) e)
+-- the parts of a small tree have no cells
+keepers_below : (ds : List Tree) → AllSmall ds → keepers ds ≡ []
+keepers_below [] h = refl
+keepers_below (d ∷ ds) h = keepers_small d ds h.0 ∙ keepers_below ds h.1
 
 keepers_less : (d : Tree) (ds : List Tree) → small d ≡ true → keepers (d ∷ ds) ≡ keepers (parts_of d) ++ keepers ds
-keepers_less d ds e = keepers_small d ds e ∙ ap (λ (es : List Tree). es ++ keepers ds) (sym (keepers_leaves (parts_of d) e))
+keepers_less d ds e = keepers_small d ds e ∙ ap (λ (es : List Tree). es ++ keepers ds) (sym (keepers_below (parts_of d) (parts_small (parts_of d) e)))
 
 keepers_shared : (p b : Bool) (x y : Tree) (zs : List Tree) → (p ≡ true → b ≡ true) → (if p then false else b) ≡ false
     → (if (p && true) then zs else keeper_by true b x y ∷ zs) ≡ (if b then [] else y ∷ []) ++ zs
@@ -129,7 +116,7 @@ keepers_not_of : (s : Bool) (kind : Single) (d : Tree) (ds : List Tree) → shar
     → (if small (One kind d) then keepers ds else keeper_by s (small d) (One kind d) (keeper d) ∷ keepers ds)
     ≡ keepers (d ∷ []) ++ keepers ds
 keepers_not_of true kind d ds is e =
-    keepers_shared (none (parts_of d)) (small d) (One kind d) (keeper d) (keepers ds) (none_leaves (parts_of d)) e
+    keepers_shared (none (parts_of d)) (small d) (One kind d) (keeper d) (keepers ds) (none_small (parts_of d)) e
 keepers_not_of false kind d ds is e =
     subst (λ (s : Bool). (if small (One kind d) then keepers ds else keeper_by s (small d) (One kind d) (keeper d) ∷ keepers ds)
     ≡ keepers (d ∷ []) ++ keepers ds)
@@ -217,7 +204,7 @@ listed_within (suc n) (d ∷ ds) rest h fit =
 pub listed : (ds : List Tree) → IsListed ds []
 listed ds = listed_within (sizes ds) ds [] (omega arith) tt
 
-some_parts : (ds : List Tree) → leaves ds ≡ false → 1 ≤ length ds
+some_parts : (ds : List Tree) → below_small ds ≡ false → 1 ≤ length ds
 some_parts [] e = cc
 some_parts (d ∷ ds) e = omega arith
 

@@ -28,9 +28,18 @@ abbrev pub leaves : List Tree → Bool
 leaves [] = true
 leaves (x ∷ xs) = none (parts_of x) && leaves xs
 
--- whether the parts of a tree have none themselves: such a one takes no cell
+-- whether the parts of a tree have none themselves
+abbrev pub tiny : Tree → Bool
+tiny d = leaves (parts_of d)
+
+-- whether trees are no more than the parts of a small one: none has parts, but the second of two may be tiny, as a line after a text
+abbrev pub below_small : List Tree → Bool
+below_small (x ∷ y ∷ []) = none (parts_of x) && tiny y
+below_small xs = leaves xs
+
+-- whether a tree is so small that it takes no cell
 abbrev pub small : Tree → Bool
-small d = leaves (parts_of d)
+small d = below_small (parts_of d)
 
 -- whether a node of this kind has the place of its part
 abbrev pub shares : Single → Bool

@@ -1,6 +1,6 @@
 //! The parts of a node, and which documents are so small that they take no cell. This file knows `View` alone.
 ghost use Rattle.std.specs.Prelude.{◌≡◌};
-ghost use Rattle.prettyless_table.specs.Parts.{none, part_trees, parts_of, small, takes};
+ghost use Rattle.prettyless_table.specs.Parts.{none, part_trees, parts_of, small, takes, tiny};
 
 use prettyless_model::kind::Single;
 use prettyless_probe::walk::{View, Walk};
@@ -38,13 +38,34 @@ pub fn is_leaf<N: Walk>(node: &N) -> bool
 
 /// Whether the parts of a node have none themselves.
 #[inline(always)]
+pub fn is_tiny<N: Walk>(node: &N) -> bool
+    ensures { result ≡ tiny (N.tree node.now) }
+{
+    match parts_below(node) {
+        Parts::None => true,
+        Parts::One(inner) => is_leaf(&inner),
+        Parts::Two(first, second) => is_leaf(&first) && is_leaf(&second),
+    }
+}
+
+// The same, called: few nodes after a leaf are asked.
+#[inline(never)]
+fn is_branch_of_leaves<N: Walk>(node: &N) -> bool
+    ensures { result ≡ tiny (N.tree node.now) }
+{
+    is_tiny(node)
+}
+
+/// Whether a node is so small that it takes no cell: it is tiny, or a leaf and a tiny document after it, as a text before a line.
+#[inline(always)]
 pub fn is_small<N: Walk>(node: &N) -> bool
     ensures { result ≡ small (N.tree node.now) }
 {
     match parts_below(node) {
         Parts::None => true,
         Parts::One(inner) => is_leaf(&inner),
-        Parts::Two(first, second) => is_leaf(&first) && is_leaf(&second),
+        Parts::Two(first, second) => is_leaf(&first)
+            && (is_leaf(&second) || is_branch_of_leaves(&second)),
     }
 }
 

@@ -1,29 +1,43 @@
 //! How many nodes documents have, and which of them take cells: counted and listed before cells are made, so that none is made in vain.
 //! This file knows the parts of nodes and what a printer has left, and no table.
-ghost use Rattle.std.specs.Prelude.{◌≡◌, ◌+◌, ◌<◌, ◌≤◌, ◌++◌, List, IfOk, IfSome, OnOk, MatchOption, if◌then◌else◌};
+ghost use Rattle.std.specs.Prelude.{◌≡◌, ◌+◌, ◌<◌, ◌≤◌, ◌++◌, List, IfOk, IfSome, OnOk, MatchOption, if◌then◌else◌, true};
 ghost use Rattle.std.specs.List.{sum_by};
 ghost use Rattle.prettyless_model.specs.Tree.{Tree, size};
 ghost use Rattle.prettyless_probe.specs.Stack.{nodes, stack_of, trees};
 ghost use Rattle.prettyless_table.specs.Owners.{all_owners, documents_left, owners_of, task_trees, waiting_owners, with_own};
-ghost use Rattle.prettyless_table.specs.Parts.{small};
+ghost use Rattle.prettyless_table.specs.Parts.{small, tiny};
 ghost use Rattle.prettyless_table.specs.Shift.{nodes_left};
 
-use crate::below::{Parts, is_leaf, parts_below, takes_cell};
+use crate::below::{Parts, is_small, parts_below, takes_cell};
 use prettyless_probe::stack::Stack;
 use prettyless_probe::walk::Walk;
 use prettyless_step::printer::Printer;
 use std::alloc::{AllocError, Global};
+
+// How many nodes a tiny document has.
+#[inline(always)]
+fn count_tiny<N: Walk>(node: &N) -> usize
+    requires { tiny (N.tree node.now) ≡ true }
+    ensures { result ≡ size (N.tree node.now) }
+{
+    match parts_below(node) {
+        Parts::None => 1,
+        Parts::One(_) => 2,
+        Parts::Two(_, _) => 3,
+    }
+}
 
 // How many nodes a small document has, and 0 for another one.
 #[inline(always)]
 fn count_small<N: Walk>(node: &N) -> usize
     ensures { result ≡ (if small (N.tree node.now) then size (N.tree node.now) else 0) }
 {
+    if !is_small(node) {
+        return 0;
+    }
     match parts_below(node) {
-        Parts::None => 1,
-        Parts::One(inner) if is_leaf(&inner) => 2,
-        Parts::Two(first, second) if is_leaf(&first) && is_leaf(&second) => 3,
-        _ => 0,
+        Parts::Two(_, second) => 2 + count_tiny(&second),
+        _ => count_tiny(node),
     }
 }
 

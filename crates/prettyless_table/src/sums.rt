@@ -6,10 +6,11 @@ ghost use Rattle.prettyless_model.specs.Look.{Answers};
 ghost use Rattle.prettyless_model.specs.declared.mode.Mode.{Mode};
 ghost use Rattle.prettyless_model.specs.declared.mode.Mode.TheVariants.{Break, Flat};
 ghost use Rattle.prettyless_summary.specs.Summary.{IsSmall, ReadsLook, Summarizes};
-ghost use Rattle.prettyless_table.specs.Parts.{parts_of, small};
+ghost use Rattle.prettyless_table.specs.Parts.{parts_of, small, tiny};
 ghost use Rattle.prettyless_summary.specs.Known.{IsKnown};
 ghost use Rattle.prettyless_table.specs.Sums.{AreDocumentSums, Fits, Keeps};
 
+use crate::below::is_tiny;
 use prettyless_model::kind::{Pair, Single};
 use prettyless_model::mode::Mode;
 use prettyless_probe::walk::{View, Walk};
@@ -212,10 +213,10 @@ pub fn of_pair(kind: Pair, first: Sums, second: Sums) -> Sums
     }
 }
 
-/// The summaries of a small document.
+// The summaries of a tiny document.
 #[inline(always)]
-pub fn small_sums<N: Walk>(node: &N) -> Sums
-    requires { small (N.tree node.now) ≡ true }
+fn tiny_sums<N: Walk>(node: &N) -> Sums
+    requires { tiny (N.tree node.now) ≡ true }
     ensures { AreDocumentSums result (N.tree node.now) }
 {
     match node.view() {
@@ -223,4 +224,43 @@ pub fn small_sums<N: Walk>(node: &N) -> Sums
         View::Two(kind, first, second) => of_pair(kind, leaf_sums(&first), leaf_sums(&second)),
         _ => leaf_sums(node),
     }
+}
+
+// The summaries of a line, as tiny documents are that follow a leaf: no more is read of it than shows in either mode.
+#[inline(always)]
+fn line_sums<N: Walk>(node: &N) -> Sums
+    requires { tiny (N.tree node.now) ≡ true }
+    ensures { AreDocumentSums result (N.tree node.now) }
+{
+    match node.view() {
+        View::Two(Pair::BreakOrFlat, broken, flat) => Sums {
+            flat: Known::Whole(leaf_summary(&flat, Mode::Flat)),
+            broken: Known::Whole(leaf_summary(&broken, Mode::Break)),
+        },
+        _ => tiny_sums(node),
+    }
+}
+
+// The summaries of a small document. Apart from those of tiny ones it is called, so that these are read where they are asked for.
+#[inline(never)]
+fn before_line_sums<N: Walk>(node: &N) -> Sums
+    requires { small (N.tree node.now) ≡ true }
+    ensures { AreDocumentSums result (N.tree node.now) }
+{
+    match node.view() {
+        View::Two(kind, first, second) => of_pair(kind, leaf_sums(&first), line_sums(&second)),
+        _ => tiny_sums(node),
+    }
+}
+
+/// The summaries of a small document.
+#[inline(always)]
+pub fn small_sums<N: Walk>(node: &N) -> Sums
+    requires { small (N.tree node.now) ≡ true }
+    ensures { AreDocumentSums result (N.tree node.now) }
+{
+    if is_tiny(node) {
+        return tiny_sums(node);
+    }
+    before_line_sums(node)
 }
