@@ -179,6 +179,7 @@ impl<'a, D: DocPlace<'a>> DocBuilder<'a, D> {
     /// ```
     /// docs![place, place.pretty(" # b")?.as_line_suffix()?, "a"]? // "a # b"
     /// ```
+    #[inline(always)]
     pub fn as_line_suffix(self) -> Result<Self, BuildError>
         ensures { to.BuildsOrKeeps result (λ b. built D.Doc.tree b.1)
             (to.as_line_suffix (built D.Doc.tree self.entry.1))

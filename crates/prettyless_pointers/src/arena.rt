@@ -8,7 +8,7 @@ ghost use Rattle.prettyless_doc.specs.DocTree.{tree_of, built, holds_memory};
 ghost use Rattle.prettyless_doc.specs.Payload as source;
 ghost use Rattle.prettyless_doc.specs.Payload.{payload_bytes};
 ghost use Rattle.prettyless_doc.specs.TextBytes.{bytes_of_text, is_owned};
-ghost use Rattle.prettyless_doc.specs.Tree.{Tree, Append, Group, Nest, Text as TextTree, Union};
+ghost use Rattle.prettyless_doc.specs.Tree.{Tree, Append, Group, LineSuffix, Nest, Text as TextTree, Union};
 ghost use Rattle.prettyless_build.specs.Built.{IfPlaced};
 ghost use Rattle.prettyless_pointers.specs.Constants.{IsTable};
 ghost use Rattle.prettyless_pointers.specs.declared.arena.RefDoc.{out-RefDoc};
@@ -302,6 +302,15 @@ impl<'a> Arena<'a> {
         self.put_fast(&self.inner, Doc::Union(first, second))
     }
 
+    // A document that stays pending until its line ends. It is apart from appends: a walk goes past it to the next of them.
+    #[inline(never)]
+    fn put_line_suffix(&self, inner: RefDoc<'a>) -> Option<RefDoc<'a>>
+        ensures same { IfSome result (λ p. ref_tree p ≡ LineSuffix (ref_tree inner.entry)) }
+        ensures settled { IfSome result (λ p. holds_memory (out-RefDoc p).0.now ≡ false) }
+    {
+        self.put_fast(self.bump, Doc::LineSuffix(inner))
+    }
+
     // Any node: the pointer to a constant, or that of a new node, with a copy of its text where it holds a box.
     #[inline(never)]
     fn put_other(&self, doc: Doc<'a, RefDoc<'a>>) -> Option<RefDoc<'a>>
@@ -318,6 +327,19 @@ impl<'a> Arena<'a> {
         self.put_fast(self.bump, doc)
     }
 
+    // The pointer to a constant, which takes no call; or that of a new node where the arena has none.
+    #[inline(always)]
+    fn put_constant(&self, which: Constant, doc: Doc<'a, RefDoc<'a>>) -> Option<RefDoc<'a>>
+        requires { constant_tree which ≡ tree_of ref_tree doc }
+        ensures same { IfSome result (λ p. ref_tree p ≡ tree_of ref_tree doc.entry) }
+        ensures settled { IfSome result (λ p. holds_memory (out-RefDoc p).0.now ≡ false) }
+    {
+        match self.find(which) {
+            Some(constant) => Some(constant),
+            None => self.put_other(doc),
+        }
+    }
+
     // Any node, as its variant is placed.
     #[inline(always)]
     fn put_any(&'a self, doc: Doc<'a, RefDoc<'a>>) -> Option<RefDoc<'a>>
@@ -330,6 +352,9 @@ impl<'a> Arena<'a> {
             Doc::Nest(offset, inner) => self.put_nest(offset, inner),
             Doc::Group(inner) => self.put_group(inner),
             Doc::Union(first, second) => self.put_union(first, second),
+            Doc::LineSuffix(inner) => self.put_line_suffix(inner),
+            Doc::HardLine => self.put_constant(Constant::HardLine, Doc::HardLine),
+            Doc::WeakSpace => self.put_constant(Constant::WeakSpace, Doc::WeakSpace),
             other => self.put_other(other),
         }
     }
