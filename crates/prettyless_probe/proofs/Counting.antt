@@ -2,7 +2,7 @@
 use Rattle.std.proofs.Common.{◌≡◌, ℕ, ◌+◌, ◌-◌, ◌^◌, ◌<◌, ◌≤◌, min, List, [], ◌∷◌, refl, Result, Ok, Err, IfOk, Bool, true, false}
 use Rattle.std.proofs.Common.{◌&&◌, ◌||◌, nat_lt, ◌∙◌, ap, arith, sym, if◌then◌else◌, IsTrue}
 use Rattle.prettyless_model.specs.Tree as t
-use Rattle.prettyless_model.specs.Tree.{Tree}
+use Rattle.prettyless_model.specs.Tree.{Tree, size}
 use Rattle.prettyless_model.specs.Choice.{column_holds, nesting_holds}
 use Rattle.prettyless_model.specs.Column.{prospective}
 use Rattle.prettyless_model.specs.Look.{Look, Answers, GoesOn, look, look_then}
@@ -17,8 +17,10 @@ use Rattle.prettyless_probe.specs.Stack.{Task, make_task}
 use Rattle.prettyless_summary.specs.Known.{before_choice}
 use Rattle.prettyless_summary.proofs.Has.{has_one}
 use Rattle.prettyless_summary.proofs.Knowing.{Leads, leads}
-use Rattle.prettyless_probe.specs.Reads.{answers_before, by_sums, is_answer, parts_read, probe_reads, read_after, reads, reads_all, reads_below}
-use Rattle.prettyless_probe.specs.Reads.{reads_from, with_below}
+use Rattle.prettyless_probe.specs.Reads.{answers_before, by_sums, is_answer, parts_read, probe_reads, read_after, reads, reads_all}
+use Rattle.prettyless_probe.specs.Reads.{reads_below, reads_from, with_below}
+use Rattle.prettyless_probe.specs.Glances.{IsLearned}
+use Rattle.prettyless_probe.specs.declared.probe.Glance.TheVariants.{Nothing}
 
 -- what is read after one look and then another
 pub after-then : (x : Look) (f : Column → Bool → Look) (g : Column → Bool → ℕ) →
@@ -182,12 +184,22 @@ pub known_none : {A : Type 0} (d : Tree) (m : Mode) → HasSummaries d → has_s
 known_none d m all none = absurd (unlike (has_summary d m) (has_one d m all) none)
 
 -- what is false where another one is true is not so with it
-pub not_both : (a b : Bool) → (IsTrue a → b ≡ false) → (a && b) ≡ false
+not_both : (a b : Bool) → (IsTrue a → b ≡ false) → (a && b) ≡ false
 not_both true b h = h refl
 not_both false b h = refl
 
+-- a document of which nothing is learned begins with no answer, and has no summary
+pub no_answer : (has : Bool) (w i : ℕ) (m : Mode) (d : Tree) (c : Column) (p : Bool) → IsLearned has Nothing w d i m c p
+    → (IsTrue has → size d < 2 ^ 32) → (has && answers_before w d i m c p) ≡ false
+no_answer has w i m d c p h few = not_both has (answers_before w d i m c p) (λ on. (h on (few on)).before)
+
+pub no_summary : (has : Bool) (w i : ℕ) (m : Mode) (d : Tree) (c : Column) (p : Bool) → IsLearned has Nothing w d i m c p
+    → (IsTrue has → size d < 2 ^ 32) → (has && has_summary d m) ≡ false
+no_summary has w i m d c p h few = not_both has (has_summary d m) (λ on. (h on (few on)).has)
+
 -- nothing is read after an answer
-read_if : (b : Bool) (x : Look) (next : Column → Bool → ℕ) → (b ≡ true → is_answer x ≡ true) → 1 + read_after x next ≡ (if b then 1 else 1 + read_after x next)
+read_if : (b : Bool) (x : Look) (next : Column → Bool → ℕ) → (b ≡ true → is_answer x ≡ true) →
+    1 + read_after x next ≡ (if b then 1 else 1 + read_after x next)
 read_if false x next h = refl
 read_if true (Answers b) next h = refl
 read_if true (GoesOn c p) next h = absurd (unlike false (h refl) refl)
@@ -204,10 +216,11 @@ pub reads_by_summary : (has : Bool) (old w i : ℕ) (m : Mode) (s : Summary) (d 
 reads_by_summary true old w i m s d mine under ts c p on one known none same =
     let own : Bool = has_summary d m in
     let next : Column → Bool → ℕ = reads_below true w false ts in
+    let alike = answers_alike own (look w (before_choice d m) i m c p) (look w d i m c p) one (leads w i m d c p) in
     ap (λ (z : List Task). 1 + read_after (look_by w s c p) (reads_all true w z (reads_below true w false under))) none
     ∙ ap (λ (z : List Task). 1 + read_after (look_by w s c p) (reads_below true w false z)) same
     ∙ ap (λ (x : Look). 1 + read_after x next) (known i w c p)
-    ∙ read_if (answers_before w d i m c p) (look w d i m c p) next (λ e. sym (answers_alike own (look w (before_choice d m) i m c p) (look w d i m c p) one (leads w i m d c p)) ∙ e)
+    ∙ read_if (answers_before w d i m c p) (look w d i m c p) next (λ e. sym alike ∙ e)
     ∙ ap (λ (n : ℕ). if answers_before w d i m c p then 1 else n) (sym (reads_by_one w i m d [] next c p one)
     ∙ ap (λ (b : Bool). reads_from b w d i m ts c p) (sym (sums_own true own (nat_lt old parts_read) one)))
 reads_by_summary false old w i m s d mine under ts c p on one known none same = absurd (cc)

@@ -2,7 +2,7 @@
 ghost use Rattle.std.specs.Prelude.{◌≡◌, Bool, IsTrue};
 ghost use Rattle.prettyless_model.specs.Tree.{Tree};
 ghost use Rattle.prettyless_probe.specs.View.{IsMeasured, view_tree};
-ghost use Rattle.prettyless_summary.specs.Known.{Holds, IsFound};
+ghost use Rattle.prettyless_summary.specs.Known.{KnownHolds, IsFound};
 
 use prettyless_model::kind::{Pair, Single};
 use prettyless_model::metrics::Metrics;
@@ -51,6 +51,6 @@ pub trait Walk: Copy {
     /// What is known of the node's summary in a mode. Where nodes have summaries, all of it is, if the node has one, and else that of
     /// what comes before its first choice, unless the node is too large.
     fn known(&self, mode: Mode) -> Known
-        ensures known { Holds result (tree self.now) mode }
+        ensures known { KnownHolds result (tree self.now) mode }
         ensures found { IsTrue HAS_SUMMARIES → IsFound result (tree self.now) mode };
 }

@@ -35,24 +35,20 @@ leads_alone : (x y : Look) (g : Column → Bool → Look) → Leads false x y �
 leads_alone (Answers b) y g h = rw h refl
 leads_alone (GoesOn c p) y g h = tt
 
-leads_append : (b : Bool) (w i : ℕ) (m : Mode) (l r : Tree) (c : Column) (p : Bool) → has_summary l m ≡ b →
+leads_append : (b : Bool) (w i : ℕ) (m : Mode) (l r : Tree) (c : Column) (p : Bool) →
     Leads b (look w (before_choice l m) i m c p) (look w l i m c p)
-    → ((e : Column) (q : Bool) → Leads (has_summary r m) (look w (before_choice r m) i m e q) (look w r i m e q))
-    → Leads (b && has_summary r m) (look w (if b then Append l (before_choice r m) else before_choice l m) i m c p) (look w (Append l r) i m c p)
-leads_append true w i m l r c p e h k =
+    → ((e : Column) (q : Bool) → Leads (has_summary r m) (look w (before_choice r m) i m e q) (look w r i m e q)) →
+    Leads (b && has_summary r m) (look w (if b then Append l (before_choice r m) else before_choice l m) i m c p)
+    (look w (Append l r) i m c p)
+leads_append true w i m l r c p h k =
     leads_then (has_summary r m) (look w l i m c p) (λ e q. look w (before_choice r m) i m e q) (λ e q. look w r i m e q) k
-leads_append false w i m l r c p e h k = leads_alone (look w (before_choice l m) i m c p) (look w l i m c p) (λ e q. look w r i m e q) h
-
-leads_same : (b : Bool) (x : Look) → Leads b x x
-leads_same true x = refl
-leads_same false (Answers b) = refl
-leads_same false (GoesOn c p) = tt
+leads_append false w i m l r c p h k = leads_alone (look w (before_choice l m) i m c p) (look w l i m c p) (λ e q. look w r i m e q) h
 
 -- what comes before a choice leads to what the document shows
 pub leads : (w i : ℕ) (m : Mode) (d : Tree) (c : Column) (p : Bool) →
     Leads (has_summary d m) (look w (before_choice d m) i m c p) (look w d i m c p)
 leads w i m (Append l r) c p =
-    leads_append (has_summary l m) w i m l r c p refl (leads w i m l c p) (λ e q. leads w i m r e q)
+    leads_append (has_summary l m) w i m l r c p (leads w i m l c p) (λ e q. leads w i m r e q)
 leads w i m (t.Indented how d) c p = leads w (indent_by how i c) m d c p
 leads w i m (t.Flatten d) c p = leads w i Flat d c p
 leads w i Break (t.BreakOrFlat b f) c p = leads w i Break b c p
@@ -91,7 +87,8 @@ answers_for s d m h i w c p a e = before_answers w i m d c p a (sym (h i w c p) 
 
 -- ---- Two documents
 
-then_answers : (x y : Look) (f g : Column → Bool → Look) (a : Bool) → x ≡ y → ((c : Column) (p : Bool) → f c p ≡ Answers a → g c p ≡ Answers a)
+then_answers : (x y : Look) (f g : Column → Bool → Look) (a : Bool) → x ≡ y
+    → ((c : Column) (p : Bool) → f c p ≡ Answers a → g c p ≡ Answers a)
     → look_then x f ≡ Answers a → look_then y g ≡ Answers a
 then_answers (Answers b) y f g a e h k = rw (sym e) k
 then_answers (GoesOn c p) y f g a e h k = rw (sym e) (h c p k)

@@ -28,9 +28,9 @@ AnswersFor s d m =
     (i width : ℕ) (c : Column) (p b : Bool) → look_by width s c p ≡ Answers b → look width d i m c p ≡ Answers b
 
 -- what is known of a document in a mode holds
-abbrev pub Holds : Known → Tree → Mode → Type 0
-Holds (Whole s) d m = Summarizes s d m
-Holds (Begins s) d m = AnswersFor s d m
+abbrev pub KnownHolds : Known → Tree → Mode → Type 0
+KnownHolds (Whole s) d m = Summarizes s d m
+KnownHolds (Begins s) d m = AnswersFor s d m
 
 -- where this is true, the whole is known, and else what comes before the first choice; it counts at most a weak space for each node
 abbrev pub FoundIf : Bool → Known → Tree → Mode → Type 0
@@ -44,5 +44,5 @@ IsFound k d m = size d < 2 ^ 32 → FoundIf (has_summary d m) k d m
 
 -- What is known of a document in a mode: it holds, and is all that can be known, unless the document is too large.
 pub record IsKnown (k : Known) (d : Tree) (m : Mode) : Type 0 where
-  pub holds : Holds k d m
+  pub holds : KnownHolds k d m
   pub found : IsFound k d m

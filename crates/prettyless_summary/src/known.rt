@@ -1,7 +1,7 @@
 //! What is known of a document's summary. This file knows no nodes.
 ghost use Rattle.prettyless_model.specs.Tree.{Append, Tree};
 ghost use Rattle.prettyless_model.specs.declared.mode.Mode.{Mode};
-ghost use Rattle.prettyless_summary.specs.Known.{Holds, IsKnown};
+ghost use Rattle.prettyless_summary.specs.Known.{KnownHolds, IsKnown};
 
 use crate::summary::Summary;
 
@@ -18,7 +18,7 @@ impl Known {
     /// Nothing is known.
     #[inline(always)]
     pub fn nothing() -> Self
-        ensures { (d : Tree) (m : Mode) → Holds result d m }
+        ensures { (d : Tree) (m : Mode) → KnownHolds result d m }
     {
         Known::Begins(Summary::nothing())
     }

@@ -103,7 +103,9 @@ keepers_below [] h = refl
 keepers_below (d ∷ ds) h = keepers_small d ds h.0 ∙ keepers_below ds h.1
 
 keepers_less : (d : Tree) (ds : List Tree) → small d ≡ true → keepers (d ∷ ds) ≡ keepers (parts_of d) ++ keepers ds
-keepers_less d ds e = keepers_small d ds e ∙ ap (λ (es : List Tree). es ++ keepers ds) (sym (keepers_below (parts_of d) (parts_small (parts_of d) e)))
+keepers_less d ds e =
+    keepers_small d ds e
+    ∙ ap (λ (es : List Tree). es ++ keepers ds) (sym (keepers_below (parts_of d) (parts_small (parts_of d) e)))
 
 keepers_shared : (p b : Bool) (x y : Tree) (zs : List Tree) → (p ≡ true → b ≡ true) → (if p then false else b) ≡ false
     → (if (p && true) then zs else keeper_by true b x y ∷ zs) ≡ (if b then [] else y ∷ []) ++ zs

@@ -10,7 +10,7 @@ use Rattle.prettyless_model.specs.declared.column.Column.{Column}
 use Rattle.prettyless_model.specs.declared.mode.Mode.{Mode}
 use Rattle.prettyless_model.specs.declared.mode.Mode.TheVariants.{Break, Flat}
 use Rattle.prettyless_summary.specs.Summary.{IsSmall, ReadsLook, Summarizes, has_summary}
-use Rattle.prettyless_summary.specs.Known.{FoundIf, Holds, IsKnown, before_choice}
+use Rattle.prettyless_summary.specs.Known.{FoundIf, KnownHolds, IsKnown, before_choice}
 use Rattle.prettyless_summary.specs.declared.known.Known.{Known}
 use Rattle.prettyless_summary.specs.declared.known.Known.TheVariants.{Whole, Begins}
 use Rattle.prettyless_summary.specs.Marks.{marks_of}
@@ -27,7 +27,7 @@ Shows e n d m = (i w : ℕ) (c : Column) (p : Bool) → (j : ℕ) × (look w e i
 summarizes_as : (s : Summary) (d e : Tree) (m n : Mode) → Shows e n d m → Summarizes s d m → Summarizes s e n
 summarizes_as s d e m n shows h i w c p = let x = shows i w c p in h x.0 w c p ∙ sym x.1
 
-holds_as : (k : Known) (d e : Tree) (m n : Mode) → Shows e n d m → Holds k d m → Holds k e n
+holds_as : (k : Known) (d e : Tree) (m n : Mode) → Shows e n d m → KnownHolds k d m → KnownHolds k e n
 holds_as (Whole s) d e m n shows h = summarizes_as s d e m n shows h
 holds_as (Begins s) d e m n shows h = λ i w c p b l. let x = shows i w c p in x.1 ∙ h x.0 w c p b l
 

@@ -10,7 +10,7 @@ use Rattle.prettyless_model.specs.declared.column.Column.{Column}
 use Rattle.prettyless_model.specs.Column.{start}
 use Rattle.prettyless_model.specs.declared.mode.Mode.{Mode}
 use Rattle.prettyless_model.specs.declared.mode.Mode.TheVariants.{Break, Flat}
-use Rattle.prettyless_summary.specs.Known.{FoundIf, Holds, IsKnown}
+use Rattle.prettyless_summary.specs.Known.{FoundIf, KnownHolds, IsKnown}
 use Rattle.prettyless_summary.specs.declared.known.Known.{Known}
 use Rattle.prettyless_summary.specs.declared.known.Known.TheVariants.{Whole, Begins}
 use Rattle.prettyless_summary.specs.Marks.{marks_of}
@@ -24,9 +24,9 @@ pub record AreDocumentSums (s : Sums) (d : Tree) : Type 0 where
   pub broken : IsKnown s.broken d Break
 
 -- the numbers of what is known fit 32 bits
-abbrev pub Fits : Known → Type 0
-Fits (Whole s) = s.inner < 2 ^ 32
-Fits (Begins s) = s.inner < 2 ^ 32
+abbrev pub IsNarrow : Known → Type 0
+IsNarrow (Whole s) = s.inner < 2 ^ 32
+IsNarrow (Begins s) = s.inner < 2 ^ 32
 
 -- the only summary that has these marks and numbers
 abbrev pub IsOnly : ℕ → Counts → Summary → Type 0
@@ -58,9 +58,9 @@ look_same (GoesOn c p) = refl
 Look-set : IsSet Look
 Look-set = retract_set look_code look_back look_same (hlevel (ℕ_set, Bool-set))
 
-Holds-prop : (k : Known) (d : Tree) (m : Mode) → IsProp (Holds k d m)
-Holds-prop (Whole s) d m = hlevel Look-set
-Holds-prop (Begins s) d m = hlevel Look-set
+KnownHolds-prop : (k : Known) (d : Tree) (m : Mode) → IsProp (KnownHolds k d m)
+KnownHolds-prop (Whole s) d m = hlevel Look-set
+KnownHolds-prop (Begins s) d m = hlevel Look-set
 
 FoundIf-prop : (b : Bool) (k : Known) (d : Tree) (m : Mode) → IsProp (FoundIf b k d m)
 FoundIf-prop true (Whole s) d m = hlevel le_prop
@@ -69,7 +69,7 @@ FoundIf-prop true (Begins s) d m = hlevel
 FoundIf-prop false (Whole s) d m = hlevel
 
 IsKnown-prop : (k : Known) (d : Tree) (m : Mode) → IsProp (IsKnown k d m)
-IsKnown-prop k d m = hlevel (Holds-prop k d m, FoundIf-prop)
+IsKnown-prop k d m = hlevel (KnownHolds-prop k d m, FoundIf-prop)
 
 pub Keeps-prop : (marks : ℕ) (counts : Counts) (d : Tree) (m : Mode) → IsProp (Keeps marks counts d m)
 Keeps-prop marks counts d m = hlevel (λ (k : Known). IsKnown-prop k d m)

@@ -5,7 +5,7 @@ ghost use Rattle.prettyless_table.specs.Cells.{KeepsBoth, second_of};
 ghost use Rattle.prettyless_summary.specs.Known.{IsKnown};
 ghost use Rattle.prettyless_table.specs.Sums.{AreDocumentSums};
 
-use crate::sums::{Counts, Sums, fits, in_mode, kept, packed};
+use crate::sums::{Counts, Sums, in_mode, is_narrow, kept, packed};
 use prettyless_model::mode::Mode;
 use prettyless_probe::walk::Walk;
 use prettyless_summary::known::Known;
@@ -35,7 +35,7 @@ impl<N: Walk> Cell<N> {
         ensures keeps { IfOk result (λ cell. (d : Tree) → AreDocumentSums sums d → KeepsBoth cell d) }
         ensures second { IfOk result (λ cell. second_of cell ≡ second) }
     {
-        if !fits(sums.flat) || !fits(sums.broken) {
+        if !is_narrow(sums.flat) || !is_narrow(sums.broken) {
             return Ok(Cell::Wide(second, Box::new(alloc, sums)?));
         }
         let (flat_marks, flat) = packed(sums.flat);

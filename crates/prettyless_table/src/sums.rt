@@ -8,7 +8,7 @@ ghost use Rattle.prettyless_model.specs.declared.mode.Mode.TheVariants.{Break, F
 ghost use Rattle.prettyless_summary.specs.Summary.{IsSmall, ReadsLook, Summarizes};
 ghost use Rattle.prettyless_table.specs.Parts.{parts_of, small, tiny};
 ghost use Rattle.prettyless_summary.specs.Known.{IsKnown};
-ghost use Rattle.prettyless_table.specs.Sums.{AreDocumentSums, Fits, Keeps};
+ghost use Rattle.prettyless_table.specs.Sums.{AreDocumentSums, IsNarrow, Keeps};
 
 use crate::below::is_tiny;
 use prettyless_model::kind::{Pair, Single};
@@ -40,8 +40,8 @@ const BEGINS: u8 = 64;
 
 /// Whether the numbers of what is known fit 32 bits.
 #[inline(always)]
-pub fn fits(known: Known) -> bool
-    ensures { IsTrue result ↔ Fits known }
+pub fn is_narrow(known: Known) -> bool
+    ensures { IsTrue result ↔ IsNarrow known }
 {
     match known {
         Known::Whole(sum) | Known::Begins(sum) => sum.inner <= u32::MAX as usize,
@@ -66,7 +66,7 @@ fn counts_of(sum: Summary) -> Counts
 /// The marks and the numbers of what is known.
 #[inline(always)]
 pub fn packed(known: Known) -> (u8, Counts)
-    requires { Fits known }
+    requires { IsNarrow known }
     ensures { (d : Tree) (m : Mode) → IsKnown known d m → Keeps result.0 result.1 d m }
 {
     match known {

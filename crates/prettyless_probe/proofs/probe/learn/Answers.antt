@@ -15,7 +15,7 @@ returns-in-Answer g c i =
       record {
         answers = c.in-Begins.ensures.known i c.args.width line.column line.pending c.in-Answer.answer (sym c.in-Answer.ensures);
         before = λ few.
-            ap is_answer (sym (found_before (has_summary d m) begin d m (c.in-Begins.ensures.found on few) i c.args.width line.column line.pending)
-            ∙ sym c.in-Answer.ensures);
+            let sum = found_before (has_summary d m) begin d m (c.in-Begins.ensures.found on few) in
+            ap is_answer (sym (sum i c.args.width line.column line.pending) ∙ sym c.in-Answer.ensures);
       },
     )

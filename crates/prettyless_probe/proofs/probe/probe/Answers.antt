@@ -1,10 +1,10 @@
-use Rattle.std.proofs.Common.{◌≡◌, ℕ, ◌+◌, ◌≤◌, ◌∙◌, ◌&&◌, nat_lt, false, true, IsTrue, List, OnOk, ap, arith, length, subst, sym}
+use Rattle.std.proofs.Common.{◌≡◌, ℕ, ◌+◌, ◌≤◌, ◌∙◌, ◌&&◌, nat_lt, false, true, List, OnOk, ap, arith, length, subst, sym}
 use Rattle.prettyless_summary.specs.Summary.{has_summary}
 use Rattle.prettyless_probe.specs.Probing.{is_fit}
-use Rattle.prettyless_probe.specs.Reads.{RisesTo, answers_before, parts_read}
+use Rattle.prettyless_probe.specs.Reads.{RisesTo, parts_read}
 use Rattle.prettyless_probe.specs.Stack.{Task, nodes, stack_of, unread}
 use Rattle.prettyless_probe.specs.Sums.{AreSums, HaveSum}
-use Rattle.prettyless_probe.proofs.Counting.{known_none, not_both, only_first, reads_by_nodes, reads_by_summary, sums_few, sums_none}
+use Rattle.prettyless_probe.proofs.Counting.{known_none, no_answer, no_summary, only_first, reads_by_nodes, reads_by_summary, sums_few, sums_none}
 use Rattle.prettyless_probe.proofs.Probes.{fit_found, summary_fits}
 use Rattle.prettyless_probe.proofs.Sizes.{size_positive}
 use Rattle.prettyless_probe.proofs.Stacks.{length-stack_of}
@@ -55,14 +55,16 @@ returns-in-Sum-clause-reads g c few =
     (omega (arith, few on, ap nodes same, ap nodes c.clear.ensures, size_positive d)) in
     subst (λ (k : ℕ). RisesTo k c.args.probes.now c.visit_by_sums.new.probes)
     (reads_by_summary has c.args.probes.now c.args.width c.args.indent c.args.mode c.in-Sum.summary d (stack_of f c.clear.new.self)
-    (unread f s c.cursor-below.result) (stack_of f s) line.column line.pending on (sum.1.has (omega (arith, few on))) sum.1.known c.clear.ensures same)
+    (unread f s c.cursor-below.result) (stack_of f s) line.column line.pending on (sum.1.has (omega (arith, few on))) sum.1.known
+    c.clear.ensures same)
     exact
 
 pub returns-in-Sum-clause-reads_at_most : goal.returns-in-Sum-clause-reads_at_most
 returns-in-Sum-clause-reads_at_most g c few = omega (arith, returns-in-Sum-clause-reads g c few)
 
 pub returns-then-reads_parts-clause-few : goal.returns-then-reads_parts-clause-few
-returns-then-reads_parts-clause-few g c all = known_none (g.N.Walk.tree c.args.node) c.args.mode all.own (c.in-Nothing.ensures c.args.indent all.summaries all.small).has
+returns-then-reads_parts-clause-few g c all =
+    known_none (g.N.Walk.tree c.args.node) c.args.mode all.own (c.in-Nothing.ensures c.args.indent all.summaries all.small).has
 
 pub returns-then-reads_parts-clause-reads : goal.returns-then-reads_parts-clause-reads
 returns-then-reads_parts-clause-reads g c few =
@@ -72,8 +74,8 @@ returns-then-reads_parts-clause-reads g c few =
     let s = c.args.commands.now in
     let line = c.args.start in
     let same = c.cursor-below.ensures.unread in
-    let unknown = λ (on : IsTrue has). c.in-Nothing.ensures c.args.indent on (omega (arith, few on)) in
-    let before = not_both has (answers_before c.args.width d c.args.indent c.args.mode line.column line.pending) (λ on. (unknown on).before) in
+    let before = no_answer has c.args.width c.args.indent c.args.mode d line.column line.pending (c.in-Nothing.ensures c.args.indent)
+    (λ on. omega (arith, few on)) in
     let some : (has && nat_lt c.args.probes.now parts_read) ≡ true = cc in
     let on = only_first has (nat_lt c.args.probes.now parts_read) some in
     let long = long_all has (length s.sums.items) (length s.nodes.items) on c.requires.long in
@@ -89,7 +91,8 @@ pub returns-then-reads_parts-clause-reads_at_most : goal.returns-then-reads_part
 returns-then-reads_parts-clause-reads_at_most g c few = omega (arith, returns-then-reads_parts-clause-reads g c few)
 
 pub returns-clause-few : goal.returns-clause-few
-returns-clause-few g c all = known_none (g.N.Walk.tree c.args.node) c.args.mode all.own (c.in-Nothing.ensures c.args.indent all.summaries all.small).has
+returns-clause-few g c all =
+    known_none (g.N.Walk.tree c.args.node) c.args.mode all.own (c.in-Nothing.ensures c.args.indent all.summaries all.small).has
 
 pub returns-clause-reads : goal.returns-clause-reads
 returns-clause-reads g c few =
@@ -98,9 +101,10 @@ returns-clause-reads g c few =
     let d = f c.args.node in
     let s = c.args.commands.now in
     let line = c.args.start in
-    let unknown = λ (on : IsTrue has). c.in-Nothing.ensures c.args.indent on (omega (arith, few on)) in
-    let before = not_both has (answers_before c.args.width d c.args.indent c.args.mode line.column line.pending) (λ on. (unknown on).before) in
-    let none = not_both has (has_summary d c.args.mode) (λ on. (unknown on).has) in
+    let before = no_answer has c.args.width c.args.indent c.args.mode d line.column line.pending (c.in-Nothing.ensures c.args.indent)
+    (λ on. omega (arith, few on)) in
+    let none = no_summary has c.args.width c.args.indent c.args.mode d line.column line.pending (c.in-Nothing.ensures c.args.indent)
+    (λ on. omega (arith, few on)) in
     let many : (has && nat_lt c.args.probes.now parts_read) ≡ false = cc in
     subst (λ (k : ℕ). OnOk c.visit_all-fit.result (RisesTo k c.args.probes.now c.visit_all-fit.new.probes))
     (reads_by_nodes false has c.args.probes.now c.args.width c.args.indent c.args.mode d (stack_of f c.clear.new.self)
@@ -116,9 +120,10 @@ returns-clause-reads_at_most g c few =
     let d = f c.args.node in
     let s = c.args.commands.now in
     let line = c.args.start in
-    let unknown = λ (on : IsTrue has). c.in-Nothing.ensures c.args.indent on (omega (arith, few on)) in
-    let before = not_both has (answers_before c.args.width d c.args.indent c.args.mode line.column line.pending) (λ on. (unknown on).before) in
-    let none = not_both has (has_summary d c.args.mode) (λ on. (unknown on).has) in
+    let before = no_answer has c.args.width c.args.indent c.args.mode d line.column line.pending (c.in-Nothing.ensures c.args.indent)
+    (λ on. omega (arith, few on)) in
+    let none = no_summary has c.args.width c.args.indent c.args.mode d line.column line.pending (c.in-Nothing.ensures c.args.indent)
+    (λ on. omega (arith, few on)) in
     let many : (has && nat_lt c.args.probes.now parts_read) ≡ false = cc in
     subst (λ (k : ℕ). c.visit_all-fit.new.probes ≤ c.args.probes.now + k)
     (reads_by_nodes false has c.args.probes.now c.args.width c.args.indent c.args.mode d (stack_of f c.clear.new.self)
@@ -151,11 +156,13 @@ returns-in_err-fits-in-Sum-clause-reads_at_most g c few =
     (omega (arith, few on, ap nodes same, ap nodes c.clear.ensures, size_positive d)) in
     subst (λ (k : ℕ). c.visit_by_sums.new.probes ≤ c.args.probes.now + k)
     (reads_by_summary has c.args.probes.now c.args.width c.args.indent c.args.mode c.in-Sum.summary d (stack_of f c.clear.new.self)
-    (unread f s c.cursor-below.result) (stack_of f s) line.column line.pending on (sum.1.has (omega (arith, few on))) sum.1.known c.clear.ensures same)
+    (unread f s c.cursor-below.result) (stack_of f s) line.column line.pending on (sum.1.has (omega (arith, few on))) sum.1.known
+    c.clear.ensures same)
     most
 
 pub returns-in_err-within-clause-few : goal.returns-in_err-within-clause-few
-returns-in_err-within-clause-few g c all = known_none (g.N.Walk.tree c.args.node) c.args.mode all.own (c.in-Nothing.ensures c.args.indent all.summaries all.small).has
+returns-in_err-within-clause-few g c all =
+    known_none (g.N.Walk.tree c.args.node) c.args.mode all.own (c.in-Nothing.ensures c.args.indent all.summaries all.small).has
 
 pub returns-in_err-within-clause-reads_at_most : goal.returns-in_err-within-clause-reads_at_most
 returns-in_err-within-clause-reads_at_most g c few =
@@ -165,8 +172,8 @@ returns-in_err-within-clause-reads_at_most g c few =
     let s = c.args.commands.now in
     let line = c.args.start in
     let same = c.cursor-below.ensures.unread in
-    let unknown = λ (on : IsTrue has). c.in-Nothing.ensures c.args.indent on (omega (arith, few on)) in
-    let before = not_both has (answers_before c.args.width d c.args.indent c.args.mode line.column line.pending) (λ on. (unknown on).before) in
+    let before = no_answer has c.args.width c.args.indent c.args.mode d line.column line.pending (c.in-Nothing.ensures c.args.indent)
+    (λ on. omega (arith, few on)) in
     let some : (has && nat_lt c.args.probes.now parts_read) ≡ true = cc in
     let on = only_first has (nat_lt c.args.probes.now parts_read) some in
     let long = long_all has (length s.sums.items) (length s.nodes.items) on c.requires.long in

@@ -49,7 +49,8 @@ returns-in-Some-then g c i m h =
     let b = c.in-Some.below.now in
     let item = c.in-Some.ensures.item in
     let under = sum_top has f s c.deref.result.now b h c.deref.ensures.value item.3.0 item.1 in
-    let own = λ (few : size d < 2 ^ 32). found_whole (has_summary d Break) c.in-Whole.own d Break (c.in-Whole.ensures.found c.requires few) in
+    let own = λ (few : size d < 2 ^ 32).
+    found_whole (has_summary d Break) c.in-Whole.own d Break (c.in-Whole.ensures.found c.requires few) in
     sum_then c.in-Whole.own i m d (stack_of f s) c.in-Whole.ensures.known under c.in-Some-then.ensures.reads
     (λ few. (own few).0)
     (λ few small. c.in-Some-then.ensures.small (size d) (nodes (stack_of f s)) few (own (omega (arith, few))).1 small)
