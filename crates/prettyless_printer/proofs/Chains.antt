@@ -16,7 +16,7 @@ use Rattle.prettyless_printer.specs.declared.answer.TrialState.{TrialState}
 use Rattle.prettyless_printer.specs.declared.answer.TrialState.TheVariants as trial_state
 use Rattle.prettyless_printer.specs.declared.answer.TrialResult.{TrialResult}
 use Rattle.prettyless_printer.specs.Points.{Standing, Seen, Point, point_at}
-use Rattle.prettyless_printer.specs.Trials.{Trial, AtChoice, TrialTurns, TrialRejected, TrialComplete, TrialRunning, Restores}
+use Rattle.prettyless_printer.specs.Trials.{Trial, AtChoice, Marks, TrialTurns, TrialRejected, TrialComplete, TrialRunning, Restores}
 use Rattle.prettyless_printer.specs.Trials.{TrialError, Tries, make_trial}
 use Rattle.prettyless_printer.specs.Trials.{trial_run}
 use Rattle.prettyless_printer.specs.Open.{BeginsTrial, Chain, Undone, TrialsEnd, Held, Link, Marked, Open, Opens, all_held, below_all}
@@ -30,7 +30,7 @@ use Rattle.prettyless_printer.proofs.Visits.{rise_then, at_most_first, at_most_t
 -- ---- Trials in one another
 
 -- a trial more is open
-chain_push : (o : Trial) (us : List Held) (t : Trial) (u : Held) (c : Trial) → Chain o us t → Link t u c → Chain o (us ++ u ∷ []) c
+unfoldable pub chain_push : (o : Trial) (us : List Held) (t : Trial) (u : Held) (c : Trial) → Chain o us t → Link t u c → Chain o (us ++ u ∷ []) c
 chain_push o [] t u c h link = (c, subst (λ (x : Trial). Link x u c) h link, refl)
 chain_push o (v ∷ us) t u c h link = (h.0, h.1, chain_push h.0 us t u c h.2 link)
 
@@ -40,7 +40,7 @@ pub record Popped (o : Trial) (us : List Held) (u : Held) (c : Trial) : Type 0 w
   pub chain : Chain o us trial
   pub link : Link trial u c
 
-pub chain_pop : (o : Trial) (us : List Held) (u : Held) (c : Trial) → Chain o (us ++ u ∷ []) c → Popped o us u c
+unfoldable pub chain_pop : (o : Trial) (us : List Held) (u : Held) (c : Trial) → Chain o (us ++ u ∷ []) c → Popped o us u c
 chain_pop o [] u c h = record {
   trial = o;
   chain = refl;
@@ -89,7 +89,7 @@ error_at {t} {c} e h =
     subst (λ (v : Visits). TrialError t (point_at c.printer c.sink v)) (sym e) (record { rise = h.rise; at_most = h.at_most })
 
 -- a trial that begins
-on_begun : {a : Point} {m : Mark} {i : ℕ} {d : Tree} {q : Standing} → Marked m a → BeginsTrial i d a.printer q
+pub on_begun : {a : Point} {m : Mark} {i : ℕ} {d : Tree} {q : Standing} → Marked m a → BeginsTrial i d a.printer q
     → TrialRunning (make_trial a i d) m.commands (point_at q a.sink a.visits)
 on_begun {a} {i} {d} {q} marked begins = record {
   is_known = marked.is_known;
@@ -107,6 +107,23 @@ open_begins {a} {i} {x} y marked begins = record {
   chain = refl;
   on = on_begun marked begins;
 }
+
+-- a trial of a first branch is opened, inside of others
+unfoldable pub more_inner : {N : Type 0} (f : N → Tree) {s : Trial} {y : Tree} {a b : Point} {q : Standing} (u : Held)
+    (us : List Held) (z : Choice N) (h : Open s y (u ∷ us) a) → AtChoice h.trial z.indent (f z.first) (f z.second) b →
+    (m : Mark) → Marks m b.printer b.sink → BeginsTrial z.indent (f z.first) b.printer q → IsUtf8 (known b.sink.bytes) →
+    Open s y (u ∷ us ++ record { mark = m; indent = z.indent; second = f z.second } ∷ []) (point_at q b.sink b.visits)
+more_inner f {s} {b = b} {q = q} u us z h choice m marks begins text =
+    let w : Held = record { mark = m; indent = z.indent; second = f z.second } in
+    let marked : Marked m b = record { marks = marks; is_known = choice.is_known; text = text } in
+    let t : Trial = make_trial b z.indent (f z.first) in
+    record {
+      holds = h.holds;
+      trial = t;
+      chain = chain_push s us h.trial w t h.chain
+          (record { holds = record { indent = refl; second = refl; marked = marked }; choice = choice });
+      on = subst (λ (n : ℕ). TrialRunning t n (point_at q b.sink b.visits)) (sym (below_push u us w)) (on_begun marked begins);
+    }
 
 -- ---- A turn of the innermost trial
 
@@ -163,24 +180,13 @@ module _ {N E : Type 0} {f : N → Tree} {s : Trial} {y : Tree} {a b : Point} wh
       → Open s y vs (point_at q b.sink b.visits)
   open_more {us = []} h opens begins text = absurd h.trials
   open_more {us = u ∷ us} {z} {q} h opens begins text =
-      let k = h.trials in
-      let w : Held = record { mark = opens.mark; indent = z.indent; second = f z.second } in
-      let choice = (h.courses k.trial k.on).0 in
-      let marked : Marked opens.mark b = record { marks = opens.marks; is_known = choice.is_known; text = text } in
-      let t : Trial = make_trial b z.indent (f z.first) in
       subst (λ (ws : List Held). Open s y ws (point_at q b.sink b.visits)) (sym opens.more)
-      (record {
-        holds = k.holds;
-        trial = t;
-        chain = chain_push s us k.trial w t k.chain
-            (record { holds = record { indent = refl; second = refl; marked = marked }; choice = choice });
-        on = subst (λ (n : ℕ). TrialRunning t n (point_at q b.sink b.visits)) (sym (below_push u us w)) (on_begun marked begins);
-      })
+      (more_inner f u us z h.trials (h.courses h.trials.trial h.trials.on).0 opens.mark opens.marks begins text)
 
 -- ---- A trial that is kept
 
 -- it is over, with the flag as it was
-kept_branch : {E : Type 0} {t : Trial} {m : Mark} {b : Point} {r : Standing} → Marked m t.start → TrialComplete t b
+pub kept_branch : {E : Type 0} {t : Trial} {m : Mark} {b : Point} {r : Standing} → Marked m t.start → TrialComplete t b
     → Flagged m.within b.printer r → Tries {E = E} t.indent t.branch t.start (point_at r b.sink b.visits) (Ok true)
 kept_branch {b} {r} marked lasts kept = trial_over lasts (subst (λ (w : Bool). Flagged w b.printer r) marked.marks.within kept)
 
@@ -195,7 +201,7 @@ kept_last {E} {b} {u} {r} h kept =
     (kept_branch marked (h.courses k.trial k.on).0 kept)
 
 -- an inner one is kept
-kept_inner : {N E : Type 0} {f : N → Tree} {s : Trial} {y : Tree} {a b : Point} {r : Standing} (v : Held) (vs : List Held) (u : Held)
+unfoldable pub kept_inner : {N E : Type 0} {f : N → Tree} {s : Trial} {y : Tree} {a b : Point} {r : Standing} (v : Held) (vs : List Held) (u : Held)
     → Took {E = E} f s y (v ∷ vs ++ u ∷ []) a b (Ok trial_state.Complete) → Flagged u.mark.within b.printer r →
     Open s y (v ∷ vs) (point_at r b.sink b.visits)
 kept_inner {E} {s} {b} {r} v vs u h kept =
@@ -255,7 +261,7 @@ back_last {E} {s} {b} {u} r h back cut pushed =
     }
 
 -- an inner one is undone
-back_inner : {N E : Type 0} {f : N → Tree} {s : Trial} {y : Tree} {a b : Point} {q : Standing} {w : Seen} (v : Held) (vs : List Held)
+unfoldable pub back_inner : {N E : Type 0} {f : N → Tree} {s : Trial} {y : Tree} {a b : Point} {q : Standing} {w : Seen} (v : Held) (vs : List Held)
     (u : Held) (r : Standing) → Took {E = E} f s y (v ∷ vs ++ u ∷ []) a b (Ok trial_state.Rejected) → Restores u.mark b.printer r
     → CutBack u.mark b.sink w → Pushed (make_task u.indent Break u.second) r q → Open s y (v ∷ vs) (point_at q w b.visits)
 back_inner {E} {s} {b} {q} {w} v vs u r h back cut pushed =

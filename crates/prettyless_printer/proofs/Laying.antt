@@ -34,6 +34,7 @@ use Rattle.prettyless_printer.specs.Turns.{Advances, ForWholes}
 use Rattle.prettyless_printer.specs.Visits.{CountsAtMost, Plain, Rise}
 use Rattle.prettyless_printer.specs.AtLeast.{CountsAtLeast, stack_tally, tally_above}
 use Rattle.prettyless_printer.specs.Laying.{Laying, Lays, flat_tasks, laid_to, left_trees, trees_waiting}
+use Rattle.prettyless_printer.specs.CourseOf.{after_all, after_texts}
 use Rattle.prettyless_printer.specs.Spending.{Left, Rule, Spends, left}
 use Rattle.prettyless_printer.specs.declared.answer.TurnResult.TheVariants as turn_result
 use Rattle.prettyless_printer.proofs.Spending.{left_with, spends_then}
@@ -257,6 +258,7 @@ pub record GivesWay (d : Tree) (cs : List Tree) : Type 0 where
   work : (i : ℕ) → nodes (flat_tasks (indents i) cs) + 1 ≤ size d
   fewer : sum_by size cs + 1 ≤ size d
   texts : IsTexts d → All IsTexts cs
+  after : (o : RenderOptions) (st : State) (ds : List Tree) → after_all o (d ∷ ds) st ≡ after_all o (cs ++ ds) st
   unasked : each_probe d Flat ≡ 0
 
 pub append_gives_way : (l r : Tree) → GivesWay (Append l r) (l ∷ r ∷ [])
@@ -267,6 +269,7 @@ append_gives_way l r = record {
   work = λ i. omega arith;
   fewer = omega arith;
   texts = λ h. All-cons IsTexts l (r ∷ []) h.0 (All-cons IsTexts r [] h.1 (All-nil IsTexts));
+  after = λ o st ds. refl;
   unasked = refl;
 }
 
@@ -278,6 +281,7 @@ nest_gives_way k c = record {
   work = λ i. omega arith;
   fewer = omega arith;
   texts = λ h. All-cons IsTexts c [] h (All-nil IsTexts);
+  after = λ o st ds. refl;
   unasked = refl;
 }
 
@@ -289,6 +293,7 @@ group_gives_way c = record {
   work = λ i. omega arith;
   fewer = omega arith;
   texts = λ h. All-cons IsTexts c [] h (All-nil IsTexts);
+  after = λ o st ds. refl;
   unasked = refl;
 }
 
@@ -309,6 +314,7 @@ either_gives_way b c = record {
   work = λ i. omega arith;
   fewer = omega arith;
   texts = λ h. All-cons IsTexts c [] h (All-nil IsTexts);
+  after = λ o st ds. refl;
   unasked = refl;
 }
 
@@ -320,6 +326,7 @@ nil_gives_way = record {
   work = λ i. omega arith;
   fewer = omega arith;
   texts = λ h. All-nil IsTexts;
+  after = λ o st ds. refl;
   unasked = refl;
 }
 
@@ -331,6 +338,7 @@ empty_gives_way [] e = record {
   work = λ i. omega arith;
   fewer = omega arith;
   texts = λ h. All-nil IsTexts;
+  after = λ o st ds. refl;
   unasked = refl;
 }
 empty_gives_way (c ∷ cs) e = absurd (cc)
@@ -401,6 +409,13 @@ text_steps_to p true g position (c ∷ cs) i ts e l h =
         within = within_is j;
       },
     )
+
+-- the state after it
+text_after : (p : Standing) (w : Bool) (g position : ℕ) (s : List ℕ) → 0 < length s → TextStart p w g position
+    → after_texts p.options (Text s) (state_at (laid_to p w position)) ≡ state_at (laid_to p true (saturating_add position (length s)))
+text_after p w g position [] l spot = absurd (omega (arith, l))
+text_after p w g position (c ∷ cs) l spot =
+    sym (text_steps_to {o = p.options} p w g position (c ∷ cs) 0 [] refl l spot).2
 
 -- A text that is not empty is about to be laid, where texts were laid up to a position.
 pub record AtText (a : Point) (p : Standing) (w : Bool) (g position : ℕ) (s : List ℕ) (ds : List Tree) (sink : Seen)
@@ -481,6 +496,8 @@ pub record Laid (first : Tree) (b : Point) (ds : List Tree) (w : Bool) (g positi
   pub lays : (a : Point) (i : ℕ) → Laying a (make_task i Flat first ∷ []) b
       → Lays a ds (point_at (laid_to b.printer w position) sink (record b.visits { printer = count }))
   pub texts : All IsTexts ds
+  pub after : after_all b.printer.options ds (state_at (laid_to b.printer w position)) ≡ after_texts b.printer.options first
+      (state_at b.printer)
   pub spot : TextStart b.printer w g position
   pub rises : b.visits.printer ≤ count
   pub counted : count + sum_by size ds ≤ b.visits.printer + size first
@@ -508,6 +525,7 @@ left_begins {first} {b} {ds} {g} {position} none e h texts =
     (record {
       lays = λ a i m. (i ∷ [], m);
       texts = All-cons IsTexts first [] texts (All-nil IsTexts);
+      after = refl;
       spot = (e, h);
       rises = omega arith;
       counted = omega arith;
@@ -523,6 +541,7 @@ left_instead {first} {b} {d} {e} {cs} {ds} {w} {g} {position} {sink} {count} {n}
     record {
       lays = λ a i m. lays_instead way ds (record b.visits { printer = n }) (k.lays a i m) (once_at d b.visits one way.unasked);
       texts = All-append IsTexts cs ds (way.texts (All-head IsTexts d ds k.texts)) (All-tail IsTexts d ds k.texts);
+      after = sym (way.after b.printer.options (state_at (laid_to b.printer w position)) ds) ∙ k.after;
       spot = h.spot;
       rises = omega (arith, h.rises, one.rises);
       counted = omega (arith, k.counted, one.at_most, way.fewer, sum_by-cons size d ds, sum_by-append size cs ds);
@@ -554,6 +573,7 @@ left_text {first} {b} {d} {ds} {w} {g} {position} {sink} {count} {n} s t some e 
     record {
       lays = λ a i m. lays_text t (at_text s some one k a i m) lender accepts;
       texts = All-tail IsTexts (Text s) ds k.texts;
+      after = ap (after_all b.printer.options ds) (sym (text_after b.printer w g position s some k.spot)) ∙ k.after;
       spot = (refl, omega arith);
       rises = omega (arith, h.rises, one.rises);
       counted = omega (arith, k.counted, one.at_most, sum_by-cons size (Text s) ds);
@@ -589,6 +609,13 @@ left_done {N} {E} f {first} {b} {ds} {w} {g} {position} {sink} {count} q x none 
     (Ok turn_result.Complete)) (sym stands)
     (lays_done f (subst (λ (z : List Tree). Lays a z (point_at (laid_to b.printer w position) sink (record b.visits { printer = count })))
     none (h.lays a i m))))
+
+-- the state is that after the first document
+pub left_after : {first : Tree} {b : Point} {ds : List Tree} {w : Bool} {g position : ℕ} {sink : Seen} {count : ℕ} (q : Standing) → ds ≡ []
+    → q ≡ laid_to b.printer w position → Laid first b ds w g position sink count
+    → state_at q ≡ after_texts b.printer.options first (state_at b.printer)
+left_after {b = b} {w = w} {position = position} q none stands h =
+    ap state_at stands ∙ sym (ap (λ (z : List Tree). after_all b.printer.options z (state_at (laid_to b.printer w position))) none) ∙ h.after
 
 -- ---- Lists of nodes, and memory for them
 

@@ -24,3 +24,5 @@ pub mod OpenSpending
 pub mod RunSpending
 pub mod Forgetting
 pub mod ShiftSpending
+pub mod Courses
+pub mod OpenCourses

@@ -106,7 +106,7 @@ trial_rejected {t} {b} {m} r new fell marks back cut =
 
 -- ---- A trial at its end
 
-none_above : (above below stack : List Task) → stack ≡ above ++ below → length stack ≤ length below → stack ≡ below
+pub none_above : (above below stack : List Task) → stack ≡ above ++ below → length stack ≤ length below → stack ≡ below
 none_above [] below stack e l = e
 none_above (a ∷ above) below stack e l = absurd (omega (arith, ap length e, length-append above below))
 

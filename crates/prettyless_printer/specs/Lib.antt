@@ -12,3 +12,5 @@ pub mod Turns
 pub mod Renders
 pub mod Paths
 pub mod Runs
+pub mod Course
+pub mod CourseOf

@@ -5,9 +5,10 @@ ghost use Rattle.prettyless_model.specs.Tree.{size};
 ghost use Rattle.prettyless_model.specs.declared.mode.Mode.TheVariants.{Flat};
 ghost use Rattle.prettyless_probe.specs.Stack.{make_task, room_of};
 ghost use Rattle.prettyless_probe.specs.Texts.{IsTexts, texts_waiting};
-ghost use Rattle.prettyless_printer.specs.Points.{Point, point, seen, standing};
+ghost use Rattle.prettyless_printer.specs.Points.{Point, point, seen, standing, state_at};
 ghost use Rattle.prettyless_printer.specs.Turns.{Advances};
 ghost use Rattle.prettyless_printer.specs.Laying.{Laying, ends_turn, laid_to};
+ghost use Rattle.prettyless_printer.specs.CourseOf.{after_texts};
 
 use prettyless_model::column::Column;
 use prettyless_model::count::one_more;
@@ -68,6 +69,8 @@ pub(crate) fn lay_texts<N: Walk, W: Render>(
     ensures rises { visits.old.printer ≤ visits.new.printer }
     ensures counted { visits.new.printer ≤ visits.old.printer + size (N.tree first) }
     ensures probes { visits.new.probes ≡ visits.old.probes }
+    ensures state { OnOk result (state_at (standing N.tree printer.new)
+        ≡ after_texts printer.old.options (N.tree first) (state_at (standing N.tree printer.old))) }
 {
     let mut gap = printer.column.gap();
     let mut position = printer.column.prospective();

@@ -1,5 +1,5 @@
 //! Trials: a union's first branch is laid, and kept or rejected. They know turns, and no sink but the buffer.
-ghost use Rattle.std.specs.Prelude.{◌≡◌, ◌≤◌, ◌<◌, [], length, take, vec_len, IfOk, IsFalse, IsTrue, OnOk};
+ghost use Rattle.std.specs.Prelude.{◌≡◌, ◌≤◌, ◌<◌, [], ℕ, length, take, vec_len, IfOk, IsFalse, IsTrue, OnOk};
 ghost use Rattle.std.specs.String.{string_bytes};
 ghost use Rattle.std.specs.String.Boundary.{IsSplitPoint};
 ghost use Rattle.prettyless_model.specs.Tree.{Tree};
@@ -7,6 +7,7 @@ ghost use Rattle.prettyless_probe.specs.Sums.{IsSummed};
 ghost use Rattle.prettyless_printer.specs.Points.{buffer_seen, standing, trial_point};
 ghost use Rattle.prettyless_printer.specs.Trials.{Trial, TrialTurns, Marks, Restores, TrialStopsPast};
 ghost use Rattle.prettyless_printer.specs.Open.{BeginsTrial, TrialsEnd, Open, Opens, all_held, below_all, held_of};
+ghost use Rattle.prettyless_printer.specs.CourseOf.{TrialCourses, TrialsCourse, around, open_waits, place_at};
 ghost use Rattle.prettyless_printer.specs.Visits.{Plain};
 ghost use Rattle.prettyless_printer.specs.Spending.{IsPlainTrial, Spends, SpendsAs, after_trial_turn, left_alone, left_of, rule_of};
 
@@ -150,6 +151,8 @@ impl<N: Walk> Run<N> {
         ensures past { IfOk result (λ c. TrialStopsPast limit self.new.visits.probes c) }
         ensures spends { Plain (standing N.tree self.old.printer) → Spends (rule_of N.HAS_SUMMARIES limit)
             (left_alone N.tree self.old) (after_trial_turn N.tree (standing N.tree self.new.printer) self.new.visits result) }
+        ensures course { TrialCourses N.tree (below_all (held_of N.tree self.old)) N.HAS_SUMMARIES (trial_point N.tree self.old)
+            (trial_point N.tree self.new) result }
         ensures trials { self.new.trials ≡ self.old.trials }
         ensures summed { OnOk result (IsSummed N.HAS_SUMMARIES N.tree self.new.printer.commands) }
     {
@@ -189,6 +192,10 @@ impl<N: Walk> Run<N> {
         ensures spends { (s : Trial) (y : Tree) → Open s y (held_of N.tree self.old) (trial_point N.tree self.old)
             → IsPlainTrial s y
             → SpendsAs (rule_of N.HAS_SUMMARIES limit) (left_of N.tree self.old) (left_of N.tree self.new) result }
+        ensures course { (s : Trial) (y : Tree) (h : Open s y (held_of N.tree self.old) (trial_point N.tree self.old)) (refused : ℕ)
+            → TrialsCourse self.old.printer.options (place_at (standing N.tree self.old.printer) self.old.visits.probes
+            (around (open_waits s y (held_of N.tree self.old) (trial_point N.tree self.old) h) N.HAS_SUMMARIES refused))
+            N.HAS_SUMMARIES refused s y (trial_point N.tree self.new) (held_of N.tree self.new) result }
         ensures summed { OnOk result (IsSummed N.HAS_SUMMARIES N.tree self.new.printer.commands) }
     {
         'work: loop {

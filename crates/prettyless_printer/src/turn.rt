@@ -3,7 +3,9 @@
 ghost use Rattle.std.specs.Prelude.{◌≡◌, ◌<◌, [], length, IfOk, OnOk};
 ghost use Rattle.prettyless_step.specs.Printing.{tasks_of};
 ghost use Rattle.prettyless_probe.specs.Sums.{IsSummed};
-ghost use Rattle.prettyless_printer.specs.Points.{point, seen, standing};
+ghost use Rattle.prettyless_printer.specs.Points.{point, seen, standing, state_at};
+ghost use Rattle.prettyless_printer.specs.Course.{Around};
+ghost use Rattle.prettyless_printer.specs.CourseOf.{GoesOn, TurnCourse, place_at};
 ghost use Rattle.prettyless_printer.specs.Visits.{Plain, visited_more};
 ghost use Rattle.prettyless_printer.specs.Spending.{Spends, after_turn, left, rule_of};
 ghost use Rattle.prettyless_printer.specs.Turns.{Advances, StopsPast};
@@ -52,6 +54,10 @@ pub fn turn<N: Walk, W: Render>(
         (rule_of N.HAS_SUMMARIES limit)
         (left (standing N.tree printer.old) [] visits.old)
         (after_turn N.tree (standing N.tree printer.new) visits.new result) }
+    ensures course { (u : Around) → u.has ≡ N.HAS_SUMMARIES
+        → GoesOn u (tasks_of N.tree printer.old) (state_at (standing N.tree printer.old))
+        → TurnCourse N.tree printer.old.options (place_at (standing N.tree printer.old) visits.old.probes u) u
+        (standing N.tree printer.new) visits.new.probes result }
     ensures summed { OnOk result (IsSummed N.HAS_SUMMARIES N.tree printer.new.commands) }
 {
     let Some(command) = printer.commands.pop() else {

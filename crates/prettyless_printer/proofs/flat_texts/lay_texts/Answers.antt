@@ -6,7 +6,7 @@ use Rattle.prettyless_model.specs.Tree.{Tree}
 use Rattle.prettyless_step.specs.declared.printer.Printer.{Printer}
 use Rattle.prettyless_printer.specs.Points.{point, seen, standing}
 use Rattle.prettyless_printer.specs.Laying.{laid_to, left_trees, trees_waiting}
-use Rattle.prettyless_printer.proofs.Laying.{Laid, OneNode, TextFails, left_at, left_begins, left_done, left_instead}
+use Rattle.prettyless_printer.proofs.Laying.{Laid, OneNode, TextFails, left_after, left_at, left_begins, left_done, left_instead}
 use Rattle.prettyless_printer.proofs.Laying.{append_gives_way, either_gives_way, empty_gives_way}
 use Rattle.prettyless_printer.proofs.Laying.{nil_gives_way, of_kind, one_gives_way, room_one, left_text, left_text_failed, left_trees-push}
 use Rattle.prettyless_printer.proofs.Laying.{length-left_trees, no_bytes, room_append, room_to_wait, some_bytes}
@@ -143,6 +143,34 @@ returns-in_default-pop-clause-lays g c = λ a i m.
     let stands = c.leave_at.ensures.stands
     ∙ ap (λ (z : Printer g.row.N.Denot). laid_to (standing f z) c.match-view.is_written c.match-view.position) h.printer in
     left_done f _ _ (ap (left_trees f) none) stands (ap (λ (z : Visits). record z { printer = n }) h.visits) left a i m
+
+pub returns-in_default-pop-clause-state : goal.returns-in_default-pop-clause-state
+returns-in_default-pop-clause-state g c =
+    let f = g.N.Walk.tree in
+    let see = seen g.W.Render.bytes g.W.Render.failures g.W.Render.lender in
+    let h = c.nodes.invariant in
+    let one : OneNode c.nodes.count c.one_more-count.result =
+    record { one = c.one_more-count.ensures.one; rises = c.one_more-count.ensures.rises; at_most = c.one_more-count.ensures.at_most } in
+    let b = point f c.args.printer.now (see c.args.out.now) c.args.visits.now in
+    let ds : List Tree = left_trees f c.nodes.printer.flat.items in
+    let n = c.one_more-count.result in
+    let left : Laid (f c.args.first) b ds c.match-view.is_written c.match-view.gap c.match-view.position (see c.match-view.out) n =
+    elim c.match-view.branch [
+      | in-Text+then-not-is_empty+in_default-write_gap_and_text w ↦
+          left_at w.is_written-is w.gap-is (w.position-is ∙ w.saturating_add-position.ensures) (ap see w.out-is)
+          (left_text w.in-Text.s.now (see w.write_gap_and_text.new.out)
+          (some_bytes w.is_empty.result w.in-Text.s.now w.is_empty.ensures w.if-not-is_empty.true) w.in-Text.ensures.tree one h.left
+          w.write_gap_and_text.ensures.same_lender w.in_default-write_gap_and_text.ensures.ok)
+      | in-Text+else-not-is_empty w ↦ left_at w.is_written-is w.gap-is w.position-is (ap see w.out-is)
+          (left_instead (empty_gives_way w.in-Text.s.now
+          (no_bytes w.is_empty.result w.in-Text.s.now w.is_empty.ensures w.if-not-is_empty.false)) w.in-Text.ensures.tree one h.left)
+      | in-Nil w ↦ left_at w.is_written-is w.gap-is w.position-is (ap see w.out-is)
+          (left_instead nil_gives_way w.in-Nil.ensures.tree one h.left)
+    ] in
+    let none : c.nodes.printer.flat.items ≡ [] = search rules in
+    let stands = c.leave_at.ensures.stands
+    ∙ ap (λ (z : Printer g.row.N.Denot). laid_to (standing f z) c.match-view.is_written c.match-view.position) h.printer in
+    left_after _ (ap (left_trees f) none) stands left
 
 pub nodes-preserved : goal.nodes-preserved
 nodes-preserved g c =

@@ -9,11 +9,15 @@ use Rattle.prettyless_step.specs.Printing.{IsStepped}
 use Rattle.prettyless_step.specs.declared.printer.StepResult.TheVariants as step_result
 use Rattle.prettyless_printer.specs.Turns.{Advances}
 use Rattle.prettyless_printer.specs.Laying.{Laying, ends_turn}
-use Rattle.prettyless_printer.specs.Points.{Standing, point, point_at, seen, standing}
+use Rattle.prettyless_printer.specs.Points.{Standing, point, point_at, seen, standing, state_at}
 use Rattle.prettyless_printer.specs.Visits.{visited_more}
 use Rattle.prettyless_printer.proofs.Trying.{grows_same}
+use Rattle.prettyless_printer.proofs.Courses.{asks_here, asks_in_part, course_begins, course_choice, course_down, course_failed, course_refused}
+use Rattle.prettyless_printer.proofs.Courses.{course_laid, course_wrote, refused_here, stops_at, stops_here}
+use Rattle.prettyless_printer.specs.CourseOf.{after_texts}
+use Rattle.prettyless_model.specs.declared.options.RenderOptions.{RenderOptions}
 use Rattle.prettyless_printer.proofs.Descends.{goes_down, in_hand, shown, visit}
-use Rattle.prettyless_printer.proofs.Standings.{wrote}
+use Rattle.prettyless_printer.proofs.Standings.{choice_there, descended, step_from, stuck_there, wrote}
 use Rattle.prettyless_printer.proofs.Visits.{visited_more-zero}
 use Rattle.prettyless_printer.proofs.Spending.{spends_all, spends_begun, spends_error, spends_choice, spends_down, spends_failed}
 use Rattle.prettyless_printer.proofs.Spending.{spends_moved, takes}
@@ -40,6 +44,8 @@ down-init g c =
       spends = λ plain. rw none
           (spends_begun _ (standing f p) (standing f (record p { commands = c.pop.new.self })) (task f c.in-Some.command) v
           c.in-Some.ensures.popped refl);
+      course = λ u has on. course_begins (standing f p) (standing f (record p { commands = c.pop.new.self })) c.in-Some.ensures.popped refl
+          on;
     }
 
 pub down-preserved-in-Ok-Descend : goal.down-preserved-in-Ok-Descend
@@ -60,6 +66,12 @@ down-preserved-in-Ok-Descend g c =
           (shown f c.down.printer q c.in-Ok-Descend.field-0 (step_result.Descend c.in-Ok-Descend.next_indent c.in-Ok-Descend.next) hand
           c.in-Ok-Descend.field-0-is c.in-Ok-Descend.ensures.step);
       summed = c.in-Ok-Descend.ensures.summed;
+      course = λ u has on. course_down (c.down.invariant.course u has on) has
+          (asks_here f (make_task c.down.indent c.down.mode (f c.down.node)) c.down.printer hand.options c.step.ensures.rises
+          c.step.ensures.counted (λ needs few. c.in-Ok-Descend.ensures.reads needs few (subst IsStepped (sym c.in-Ok-Descend.field-0-is) tt)))
+          (descended f c.in-Ok-Descend.next_indent c.down.mode c.in-Ok-Descend.next _ c.down.printer q
+          (shown f c.down.printer q c.in-Ok-Descend.field-0 (step_result.Descend c.in-Ok-Descend.next_indent c.in-Ok-Descend.next) hand
+          c.in-Ok-Descend.field-0-is c.in-Ok-Descend.ensures.step));
       spends = λ plain. spends_down f c.down.printer q c.in-Ok-Descend.next_indent c.down.mode c.in-Ok-Descend.next took plain
           c.step.ensures.queue (shown f c.down.printer q c.in-Ok-Descend.field-0
           (step_result.Descend c.in-Ok-Descend.next_indent c.in-Ok-Descend.next) hand
@@ -86,6 +98,12 @@ down-preserved g c =
           c.in-Ok-DescendFlat.next) hand
           c.in-Ok-DescendFlat.field-0-is c.in-Ok-DescendFlat.ensures.step);
       summed = c.in-Ok-DescendFlat.ensures.summed;
+      course = λ u has on. course_down (c.down.invariant.course u has on) has
+          (asks_here f (make_task c.down.indent c.down.mode (f c.down.node)) c.down.printer hand.options c.step.ensures.rises
+          c.step.ensures.counted (λ needs few. c.in-Ok-DescendFlat.ensures.reads needs few (subst IsStepped (sym c.in-Ok-DescendFlat.field-0-is) tt)))
+          (descended f c.in-Ok-DescendFlat.next_indent Flat c.in-Ok-DescendFlat.next _ c.down.printer q
+          (shown f c.down.printer q c.in-Ok-DescendFlat.field-0 (step_result.DescendFlat c.in-Ok-DescendFlat.next_indent c.in-Ok-DescendFlat.next) hand
+          c.in-Ok-DescendFlat.field-0-is c.in-Ok-DescendFlat.ensures.step));
       spends = λ plain. spends_down f c.down.printer q c.in-Ok-DescendFlat.next_indent Flat c.in-Ok-DescendFlat.next took plain
           c.step.ensures.queue (shown f c.down.printer q c.in-Ok-DescendFlat.field-0
           (step_result.DescendFlat c.in-Ok-DescendFlat.next_indent c.in-Ok-DescendFlat.next) hand c.in-Ok-DescendFlat.field-0-is
@@ -427,3 +445,133 @@ returns-in-Err-write_piece-clause-spends g c =
     c.down.invariant.spends in
     rw c.count_more-in-Ok-Emit.ensures.more
     (λ plain. spends_error f c.down.printer took plain)
+
+-- ---- Where it has come in the course of a run
+
+pub returns-in-Err-clause-course : goal.returns-in-Err-clause-course
+returns-in-Err-clause-course g c =
+    let f = g.N.Walk.tree in
+    rw c.count_more.ensures.more
+    (λ u has on. course_refused (c.down.invariant.course u has on) has
+    (asks_in_part f (make_task c.down.indent c.down.mode (f c.down.node)) c.down.printer c.down.invariant.hand.options c.step.ensures.rises
+    c.step.ensures.counted c.step.ensures.reads_at_most))
+
+pub returns-in-Ok-Silent-clause-course : goal.returns-in-Ok-Silent-clause-course
+returns-in-Ok-Silent-clause-course g c =
+    let f = g.N.Walk.tree in
+    let q = c.step.new.printer in
+    let hand = c.down.invariant.hand in
+    rw c.count_more-in-Ok-Silent.ensures.more
+    (λ u has on. course_wrote (c.down.invariant.course u has on) has
+    (asks_here f (make_task c.down.indent c.down.mode (f c.down.node)) c.down.printer hand.options c.step.ensures.rises
+    c.step.ensures.counted (λ needs few. c.in-Ok-Silent.ensures.reads needs few (subst IsStepped (sym c.in-Ok-Silent.field-0-is) tt)))
+    (wrote f _ [] c.down.printer q (shown f c.down.printer q c.in-Ok-Silent.field-0 step_result.Silent hand c.in-Ok-Silent.field-0-is
+    c.in-Ok-Silent.ensures.step)))
+
+pub returns-in-Ok-Failed-clause-course : goal.returns-in-Ok-Failed-clause-course
+returns-in-Ok-Failed-clause-course g c =
+    let f = g.N.Walk.tree in
+    let q = c.step.new.printer in
+    let hand = c.down.invariant.hand in
+    let t = make_task c.down.indent c.down.mode (f c.down.node) in
+    rw c.count_more-in-Ok-Failed.ensures.more
+    (λ u has on. course_failed (c.down.invariant.course u has on)
+    (asks_here f t c.down.printer hand.options c.step.ensures.rises
+    c.step.ensures.counted (λ needs few. c.in-Ok-Failed.ensures.reads needs few (subst IsStepped (sym c.in-Ok-Failed.field-0-is) tt)))
+    (stuck_there f t.mode (step_from c.args.printer.now.options t (standing f c.down.printer)) c.down.printer q
+    (shown f c.down.printer q c.in-Ok-Failed.field-0 step_result.Failed hand c.in-Ok-Failed.field-0-is c.in-Ok-Failed.ensures.step)).0)
+
+pub returns-in-Ok-Choice-clause-course : goal.returns-in-Ok-Choice-clause-course
+returns-in-Ok-Choice-clause-course g c =
+    let f = g.N.Walk.tree in
+    let q = c.step.new.printer in
+    let hand = c.down.invariant.hand in
+    let t = make_task c.down.indent c.down.mode (f c.down.node) in
+    let there = choice_there f t.mode c.in-Ok-Choice.indent c.in-Ok-Choice.first c.in-Ok-Choice.second
+    (step_from c.args.printer.now.options t (standing f c.down.printer)) c.down.printer q
+    (shown f c.down.printer q c.in-Ok-Choice.field-0 (step_result.Choice c.in-Ok-Choice.indent c.in-Ok-Choice.first c.in-Ok-Choice.second)
+    hand c.in-Ok-Choice.field-0-is c.in-Ok-Choice.ensures.step) in
+    rw c.count_more-in-Ok-Choice.ensures.more
+    (λ u has on. course_choice c.in-Ok-Choice.indent (f c.in-Ok-Choice.first) (f c.in-Ok-Choice.second) (c.down.invariant.course u has on)
+    (asks_here f t c.down.printer hand.options c.step.ensures.rises
+    c.step.ensures.counted (λ needs few. c.in-Ok-Choice.ensures.reads needs few (subst IsStepped (sym c.in-Ok-Choice.field-0-is) tt)))
+    there.0 there.1)
+
+pub returns-in-Ok-write_piece-clause-course : goal.returns-in-Ok-write_piece-clause-course
+returns-in-Ok-write_piece-clause-course g c =
+    let f = g.N.Walk.tree in
+    let q = c.step.new.printer in
+    let hand = c.down.invariant.hand in
+    rw c.count_more-in-Ok-Emit.ensures.more
+    (λ u has on. course_wrote (c.down.invariant.course u has on) has
+    (asks_here f (make_task c.down.indent c.down.mode (f c.down.node)) c.down.printer hand.options c.step.ensures.rises
+    c.step.ensures.counted (λ needs few. c.in-Ok-Emit.ensures.reads needs few (subst IsStepped (sym c.in-Ok-Emit.field-0-is) tt)))
+    (wrote f _ (piece_bytes c.in-Ok-Emit.piece) c.down.printer q (shown f c.down.printer q c.in-Ok-Emit.field-0
+    (step_result.Emit c.in-Ok-Emit.piece) hand c.in-Ok-Emit.field-0-is c.in-Ok-Emit.ensures.step)))
+
+pub returns-in-Err-write_piece-clause-course : goal.returns-in-Err-write_piece-clause-course
+returns-in-Err-write_piece-clause-course g c =
+    let f = g.N.Walk.tree in
+    let q = c.step.new.printer in
+    let hand = c.down.invariant.hand in
+    rw c.count_more-in-Ok-Emit.ensures.more
+    (λ u has on. stops_here (course_wrote (c.down.invariant.course u has on) has
+    (asks_here f (make_task c.down.indent c.down.mode (f c.down.node)) c.down.printer hand.options c.step.ensures.rises
+    c.step.ensures.counted (λ needs few. c.in-Ok-Emit.ensures.reads needs few (subst IsStepped (sym c.in-Ok-Emit.field-0-is) tt)))
+    (wrote f _ (piece_bytes c.in-Ok-Emit.piece) c.down.printer q (shown f c.down.printer q c.in-Ok-Emit.field-0
+    (step_result.Emit c.in-Ok-Emit.piece) hand c.in-Ok-Emit.field-0-is c.in-Ok-Emit.ensures.step))))
+
+pub returns-in-Err-make_room-clause-course : goal.returns-in-Err-make_room-clause-course
+returns-in-Err-make_room-clause-course g c =
+    let f = g.N.Walk.tree in
+    let q = c.step.new.printer in
+    let i = c.in-Ok-DescendTexts.field-0-0 in
+    let n = c.in-Ok-DescendTexts.next in
+    let hand = c.down.invariant.hand in
+    let t = make_task c.down.indent c.down.mode (f c.down.node) in
+    let asks = asks_here f t c.down.printer hand.options c.step.ensures.rises c.step.ensures.counted
+    (λ needs few. c.in-Ok-DescendTexts.ensures.reads needs few (subst IsStepped (sym c.in-Ok-DescendTexts.field-0-is) tt)) in
+    let texts = shown f c.down.printer q c.in-Ok-DescendTexts.field-0 (step_result.DescendTexts i n) hand c.in-Ok-DescendTexts.field-0-is
+    c.in-Ok-DescendTexts.ensures.step in
+    let down = descended f i Flat n (step_from c.args.printer.now.options t (standing f c.down.printer)) c.down.printer q texts.0 in
+    rw c.count_more-in-Ok-DescendTexts.ensures.more
+    (λ u has on. refused_here (course_down (c.down.invariant.course u has on) has asks down).comes)
+
+pub returns-in-Ok-lay_texts-clause-course : goal.returns-in-Ok-lay_texts-clause-course
+returns-in-Ok-lay_texts-clause-course g c =
+    let f = g.N.Walk.tree in
+    let q = c.step.new.printer in
+    let i = c.in-Ok-DescendTexts.field-0-0 in
+    let n = c.in-Ok-DescendTexts.next in
+    let hand = c.down.invariant.hand in
+    let t = make_task c.down.indent c.down.mode (f c.down.node) in
+    let asks = asks_here f t c.down.printer hand.options c.step.ensures.rises c.step.ensures.counted
+    (λ needs few. c.in-Ok-DescendTexts.ensures.reads needs few (subst IsStepped (sym c.in-Ok-DescendTexts.field-0-is) tt)) in
+    let texts = shown f c.down.printer q c.in-Ok-DescendTexts.field-0 (step_result.DescendTexts i n) hand c.in-Ok-DescendTexts.field-0-is
+    c.in-Ok-DescendTexts.ensures.step in
+    let down = descended f i Flat n (step_from c.args.printer.now.options t (standing f c.down.printer)) c.down.printer q texts.0 in
+    let laid = c.lay_texts.ensures in
+    let after = standing f c.lay_texts.new.printer in
+    let probes = rw c.count_more-in-Ok-DescendTexts.ensures.more at laid.probes in
+    λ u has on.
+    course_laid after texts.1.0 (course_down (c.down.invariant.course u has on) has asks down)
+    (ap (stack_of f) laid.commands ∙ ap (λ (z : Printer g.row.N.Denot). stack_of f z.commands) c.make_room.ensures.others)
+    (c.in-Ok-lay_texts.ensures.state
+    ∙ ap (λ (z : Printer g.row.N.Denot). after_texts z.options (f n) (state_at (standing f z))) c.make_room.ensures.others
+    ∙ ap (λ (o : RenderOptions). after_texts o (f n) (state_at (standing f q))) (down.options ∙ hand.options)) probes
+
+pub returns-in-Err-lay_texts-clause-course : goal.returns-in-Err-lay_texts-clause-course
+returns-in-Err-lay_texts-clause-course g c =
+    let f = g.N.Walk.tree in
+    let q = c.step.new.printer in
+    let i = c.in-Ok-DescendTexts.field-0-0 in
+    let n = c.in-Ok-DescendTexts.next in
+    let hand = c.down.invariant.hand in
+    let t = make_task c.down.indent c.down.mode (f c.down.node) in
+    let asks = asks_here f t c.down.printer hand.options c.step.ensures.rises c.step.ensures.counted
+    (λ needs few. c.in-Ok-DescendTexts.ensures.reads needs few (subst IsStepped (sym c.in-Ok-DescendTexts.field-0-is) tt)) in
+    let texts = shown f c.down.printer q c.in-Ok-DescendTexts.field-0 (step_result.DescendTexts i n) hand c.in-Ok-DescendTexts.field-0-is
+    c.in-Ok-DescendTexts.ensures.step in
+    let down = descended f i Flat n (step_from c.args.printer.now.options t (standing f c.down.printer)) c.down.printer q texts.0 in
+    let probes = rw c.count_more-in-Ok-DescendTexts.ensures.more at c.lay_texts.ensures.probes in
+    λ u has on. stops_at (course_down (c.down.invariant.course u has on) has asks down).comes (sym probes)

@@ -1,11 +1,14 @@
-use Rattle.std.proofs.Common.{[], ◌∷◌}
+use Rattle.std.proofs.Common.{◌≡◌, [], ◌∷◌}
 use Rattle.prettyless_probe.specs.Stack.{make_task}
 use Rattle.prettyless_step.specs.Steps.{work}
 use Rattle.prettyless_probe.specs.Sums.{IsSummed}
 use Rattle.prettyless_step.specs.Printing.{state_of, tasks_of}
-use Rattle.prettyless_printer.specs.Points.{point, seen, standing}
+use Rattle.prettyless_printer.specs.Points.{point, seen, standing, state_at}
+use Rattle.prettyless_printer.specs.Course.{Around}
+use Rattle.prettyless_printer.specs.CourseOf.{GoesOn, place_at}
 use Rattle.prettyless_printer.specs.Visits.{Plain, visited_more}
 use Rattle.prettyless_printer.specs.Spending.{Spends, left, rule_of}
+use Rattle.prettyless_printer.proofs.Courses.{InCourse}
 use Rattle.prettyless_printer.proofs.Descends.{InHand}
 use Rattle.prettyless_printer.proofs.Spending.{left_with}
 use Rattle.prettyless_printer.proofs.turn.turn.Given as goal
@@ -21,6 +24,10 @@ invariant-down g l =
       spends : Plain (standing f l.fn.printer) → Spends (rule_of g.N.Walk.HAS_SUMMARIES l.limit)
           (left (standing f l.fn.printer) [] l.fn.visits)
           (left_with (make_task l.indent l.mode (f l.node)) (standing f l.printer) (visited_more l.count l.visits));
+      course : (u : Around) → u.has ≡ g.N.Walk.HAS_SUMMARIES
+          → GoesOn u (tasks_of f l.fn.printer) (state_at (standing f l.fn.printer))
+          → InCourse l.fn.printer.options (place_at (standing f l.fn.printer) l.fn.visits.probes u) u
+          (make_task l.indent l.mode (f l.node)) (standing f l.printer) l.visits.probes;
     }
 
 abbrev pub decreases-down : goal.decreases-down

@@ -16,6 +16,12 @@ use Rattle.prettyless_printer.specs.Spending.{Spends, left_of, none_left, rule_o
 use Rattle.prettyless_printer.proofs.Chains.{all_held-push, ends_error, error_at, last_kept, last_other, length-all_held, open_error}
 use Rattle.prettyless_printer.proofs.Chains.{open_choice_error, open_rejected_error, open_rejected, open_goes, open_kept, open_more}
 use Rattle.prettyless_printer.proofs.Chains.{open_other, open_some, open_stops, took}
+use Rattle.std.proofs.lemmas.Result.{err_from_is_err_and}
+use Rattle.prettyless_printer.specs.Open.{Opens}
+use Rattle.prettyless_printer.specs.CourseOf.{ComesInTrials, StopsInPart}
+use Rattle.prettyless_printer.proofs.Courses.{come_same}
+use Rattle.prettyless_printer.proofs.OpenCourses.{course_error, course_error_choice, course_error_rejected, course_goes, course_kept}
+use Rattle.prettyless_printer.proofs.OpenCourses.{course_kept_last, course_more, course_other, course_other_last, course_stays, same_options}
 use Rattle.prettyless_printer.proofs.Costs.{left_at, less_goes, less_more, less_kept, less_other}
 use Rattle.prettyless_printer.proofs.Trying.{cut_back, flagged, pushed, queue_marked}
 use Rattle.prettyless_printer.proofs.Standings.{length_queue}
@@ -36,6 +42,7 @@ work-init g c = record {
   trials = λ s y h. h;
   some = c.requires.open;
   spends = λ s y h plain. spends_same _ _;
+  course = λ s y h refused. record { trials = h; comes = come_same _ _ };
   summed = c.requires.summed;
 }
 
@@ -74,6 +81,12 @@ work-preserved-in-Running g c =
       spends = λ s y h plain.
           open_spends same (record { before = h; now = c.work.invariant.trials s y h; plain = plain })
           (c.work.invariant.spends s y h plain) (rw c.in-Running.is at c.in_ok-advance.ensures.spends);
+      course = λ s y h refused.
+          let now = c.work.invariant.course s y h refused in
+          subst (λ (us : List Held). ComesInTrials c.args.self.now.printer.options _ g.N.Walk.HAS_SUMMARIES refused s y us
+          (trial_point f c.advance.new.self)) (sym same)
+          (course_goes AllocError f g.N.Walk.HAS_SUMMARIES (trial_point f c.advance.new.self) (held_of f c.work.self) now
+          (same_options h now.trials) course (rw c.in-Running.is at c.in_ok-advance.ensures.course));
       summed = c.in_ok-advance.ensures.summed;
     }
 
@@ -138,6 +151,12 @@ work-preserved-else-is_empty g c =
           (all_held-push f _ us c.in-Some.trial c.in-Some.ensures.items) refl refl
           (open_spends same (record { before = h; now = c.work.invariant.trials s y h; plain = plain })
           (c.work.invariant.spends s y h plain) (rw c.in-Complete.is at c.in_ok-advance.ensures.spends));
+      course = λ s y h refused.
+          let now = c.work.invariant.course s y h refused in
+          course_kept AllocError f g.N.Walk.HAS_SUMMARIES (trial_point f new) (all_held f us) (held f c.in-Some.trial)
+          (sym same ∙ all_held-push f _ us c.in-Some.trial c.in-Some.ensures.items) (omega (arith, length-all_held f us, inner)) now
+          (same_options h now.trials) course (rw c.in-Complete.is at c.in_ok-advance.ensures.course)
+          (flagged c.in-Some.trial.mark.within (standing f new.printer));
       summed = c.in_ok-advance.ensures.summed;
     }
 
@@ -239,6 +258,13 @@ work-preserved-else-is_empty-2 g c =
           c.undo.ensures.printer (pushed (standing f q) c.in_ok-push-in-Rejected.ensures.pushed refl refl refl) refl
           (open_spends same (record { before = h; now = c.work.invariant.trials s y h; plain = plain })
           (c.work.invariant.spends s y h plain) (rw c.in-Rejected.is at c.in_ok-advance.ensures.spends));
+      course = λ s y h refused.
+          let now = c.work.invariant.course s y h refused in
+          course_other AllocError f g.N.Walk.HAS_SUMMARIES (trial_point f new) (all_held f us) (held f c.in-Some-pop.trial) (standing f r)
+          (sym same ∙ all_held-push f _ us c.in-Some-pop.trial c.in-Some-pop.ensures.items) (omega (arith, length-all_held f us, inner)) now
+          (same_options h now.trials) course (rw c.in-Rejected.is at c.in_ok-advance.ensures.course) c.undo.ensures.printer
+          (record { is_known = refl; bytes = c.undo.ensures.buffer; failures = c.undo.ensures.failures; lender = refl })
+          (pushed (standing f q) c.in_ok-push-in-Rejected.ensures.pushed refl refl refl);
       summed = c.in_ok-push-in-Rejected.ensures.summed (c.undo.ensures.summed c.in_ok-advance.ensures.summed);
     }
 
@@ -276,6 +302,14 @@ work-preserved g c =
           (ap (λ (z : Queue _). trees f z.nodes.items) c.open_trial.ensures.queue)
           (open_spends same (record { before = h; now = c.work.invariant.trials s y h; plain = plain })
           (c.work.invariant.spends s y h plain) (rw c.in-Choice.is at c.in_ok-advance.ensures.spends)));
+      course = λ s y h refused.
+          let now = c.work.invariant.course s y h refused in
+          subst (λ (r : Run _). ComesInTrials c.args.self.now.printer.options _ g.N.Walk.HAS_SUMMARIES refused s y (held_of f r)
+          (trial_point f r)) (sym others)
+          (course_more AllocError f g.N.Walk.HAS_SUMMARIES (trial_point f c.advance.new.self) c.in-Choice.choice (held_of f old)
+          (held_of f next) now (same_options h now.trials) course (rw c.in-Choice.is at c.in_ok-advance.ensures.course)
+          (subst (λ (us : List Held). Opens f _ _ _ _ us (held_of f next)) same c.in_ok-open_trial-in-Choice.ensures.held)
+          c.in_ok-open_trial-in-Choice.ensures.begun (IsUtf8-string_bytes c.advance.new.self.buffer.text));
       summed = c.in_ok-open_trial-in-Choice.ensures.summed;
     }
 
@@ -350,3 +384,82 @@ returns-in_err-open_trial-in-Choice-clause-spends g c =
     (spends_all
     (open_spends (same_open f _ _ c.advance.ensures.trials) (record { before = h; now = c.work.invariant.trials s y h; plain = plain })
     (c.work.invariant.spends s y h plain) (rw c.in-Choice.is at c.in_ok-advance.ensures.spends))))
+
+-- ---- Where it has come in the course of a run
+
+-- the innermost trial is refused memory
+pub returns-in_err-advance-clause-course : goal.returns-in_err-advance-clause-course
+returns-in_err-advance-clause-course g c =
+    let f = g.N.Walk.tree in
+    let residual = err_from_is_err_and c.from_residual.result c.from_residual.ensures.1 in
+    rw (residual.1, residual.2)
+    λ s y h refused.
+    let now = c.work.invariant.course s y h refused in
+    course_error AllocError f g.N.Walk.HAS_SUMMARIES (trial_point f c.advance.new.self) _ (held_of f c.work.self) now
+    (same_options h now.trials) c.in_err-advance.ensures.course
+
+-- it stopped
+pub returns-in-Shift-clause-course : goal.returns-in-Shift-clause-course
+returns-in-Shift-clause-course g c = λ s y h refused.
+    let f = g.N.Walk.tree in
+    let now = c.work.invariant.course s y h refused in
+    let same = same_open f _ _ c.advance.ensures.trials in
+    subst (λ (us : List Held). ComesInTrials c.args.self.now.printer.options _ g.N.Walk.HAS_SUMMARIES refused s y us
+    (trial_point f c.advance.new.self)) (sym same)
+    (course_stays AllocError f g.N.Walk.HAS_SUMMARIES (trial_point f c.advance.new.self) (held_of f c.work.self) now
+    (same_options h now.trials) (rw c.in-Shift.is at c.in_ok-advance.ensures.courses)
+    (rw c.in-Shift.is at c.in_ok-advance.ensures.course))
+
+-- the outermost one is kept
+pub returns-then-is_empty-clause-course : goal.returns-then-is_empty-clause-course
+returns-then-is_empty-clause-course g c = λ s y h refused.
+    let f = g.N.Walk.tree in
+    let now = c.work.invariant.course s y h refused in
+    let us = c.pop.new.self.items in
+    let same = same_open f _ _ c.advance.ensures.trials in
+    let none : all_held f us ≡ [] = nil_from_length (all_held f us) (length-all_held f us ∙ c.is_empty.ensures.none c.if-is_empty.true) in
+    course_kept_last AllocError f g.N.Walk.HAS_SUMMARIES (trial_point f c.advance.new.self) (all_held f us) (held f c.in-Some.trial)
+    (sym same ∙ all_held-push f _ us c.in-Some.trial c.in-Some.ensures.items) none now (same_options h now.trials)
+    (rw c.in-Complete.is at c.in_ok-advance.ensures.courses) (rw c.in-Complete.is at c.in_ok-advance.ensures.course)
+    (flagged c.in-Some.trial.mark.within (standing f c.advance.new.self.printer))
+
+-- its second branch is refused memory
+pub returns-in_err-push-in-Rejected-clause-course : goal.returns-in_err-push-in-Rejected-clause-course
+returns-in_err-push-in-Rejected-clause-course g c =
+    let f = g.N.Walk.tree in
+    let residual = err_from_is_err_and c.from_residual-in_err-push-in-Rejected.result c.from_residual-in_err-push-in-Rejected.ensures.1 in
+    rw (residual.1, residual.2)
+    λ s y h refused.
+    let now = c.work.invariant.course s y h refused in
+    course_error_rejected AllocError f g.N.Walk.HAS_SUMMARIES (trial_point f c.advance.new.self) (held_of f c.work.self) now
+    (same_options h now.trials) (rw c.in-Rejected.is at c.in_ok-advance.ensures.course)
+
+-- the outermost one is undone
+pub returns-then-is_empty-2-clause-course : goal.returns-then-is_empty-2-clause-course
+returns-then-is_empty-2-clause-course g c = λ s y h refused.
+    let f = g.N.Walk.tree in
+    let now = c.work.invariant.course s y h refused in
+    let r = c.undo.new.printer in
+    let q = record r { commands = c.push.new.self } in
+    let us = c.pop-in-Rejected.new.self.items in
+    let same = same_open f _ _ c.advance.ensures.trials in
+    let none : all_held f us ≡ [] =
+    nil_from_length (all_held f us) (length-all_held f us ∙ c.is_empty-in-Rejected.ensures.none c.if-is_empty-2.true) in
+    course_other_last AllocError f g.N.Walk.HAS_SUMMARIES (trial_point f c.advance.new.self) (all_held f us) (held f c.in-Some-pop.trial)
+    (standing f r) (sym same ∙ all_held-push f _ us c.in-Some-pop.trial c.in-Some-pop.ensures.items) none now (same_options h now.trials)
+    (rw c.in-Rejected.is at c.in_ok-advance.ensures.courses) (rw c.in-Rejected.is at c.in_ok-advance.ensures.course)
+    c.undo.ensures.printer (pushed (standing f q) c.in_ok-push-in-Rejected.ensures.pushed refl refl refl)
+
+-- a trial more is refused memory
+pub returns-in_err-open_trial-in-Choice-clause-course : goal.returns-in_err-open_trial-in-Choice-clause-course
+returns-in_err-open_trial-in-Choice-clause-course g c =
+    let f = g.N.Walk.tree in
+    let residual = err_from_is_err_and c.from_residual-in_err-open_trial-in-Choice.result
+    c.from_residual-in_err-open_trial-in-Choice.ensures.1 in
+    rw (residual.1, residual.2)
+    λ s y h refused.
+    let now = c.work.invariant.course s y h refused in
+    subst (λ (v : Visits). StopsInPart c.args.self.now.printer.options _ v.probes refused)
+    (sym (ap (λ (r : Run _). r.visits) c.open_trial.ensures.others))
+    (course_error_choice AllocError f g.N.Walk.HAS_SUMMARIES (trial_point f c.advance.new.self) c.in-Choice.choice (held_of f c.work.self) now
+    (same_options h now.trials) (rw c.in-Choice.is at c.in_ok-advance.ensures.course))

@@ -1,0 +1,165 @@
+-- What the course of a run says of the run, by the way that it ends.
+use Rattle.std.specs.Prelude.{◌≡◌, ℕ, ◌≤◌, ◌<◌, ◌⊎◌, Bool, true, List, [], ◌∷◌, ◌++◌, length, Result, Ok, Err}
+use Rattle.prettyless_model.specs.declared.options.RenderOptions.{RenderOptions}
+use Rattle.prettyless_sink.specs.declared.error.RenderError.{RenderError}
+use Rattle.prettyless_sink.specs.declared.error.RenderError.TheVariants.{Document, Sink, Memory}
+use Rattle.prettyless_model.specs.Tree.{Tree, Append, BreakOrFlat, Group, Nest, Text}
+use Rattle.prettyless_model.specs.Counts.{each_probe}
+use Rattle.prettyless_model.specs.Layout.{Outcome, Done, Failed, State, lay_text, some_pending}
+use Rattle.prettyless_probe.specs.Stack.{Task}
+use Rattle.prettyless_printer.specs.declared.answer.TurnResult.{TurnResult}
+use Rattle.prettyless_printer.specs.declared.answer.TurnResult.TheVariants as turn_result
+use Rattle.prettyless_printer.specs.declared.answer.TrialState.{TrialState}
+use Rattle.prettyless_printer.specs.declared.answer.TrialState.TheVariants as trial_state
+use Rattle.prettyless_printer.specs.declared.answer.TrialResult.{TrialResult}
+use Rattle.prettyless_printer.specs.declared.answer.TrialResult.TheVariants as trial_result
+use Rattle.prettyless_printer.specs.Points.{Point, Standing, state_at}
+use Rattle.prettyless_printer.specs.Trials.{Trial}
+use Rattle.prettyless_printer.specs.Open.{Chain, Held, Open}
+use Rattle.prettyless_printer.specs.Course.{Around, AsksInPart, Comes, HasOwn, IsRejected, NextChooses, NextFails}
+use Rattle.prettyless_printer.specs.Course.{Place, StaysWithin, Waiting, place}
+
+-- where a printer stands, as a place
+abbrev pub place_at : Standing → ℕ → Around → Place
+place_at p probes u = place p.tasks (state_at p) probes u
+
+-- the same with one task more, the next one
+abbrev pub place_with : Task → Standing → ℕ → Around → Place
+place_with t p probes u = place (t ∷ p.tasks) (state_at p) probes u
+
+-- the innermost trial, if one is open, goes on
+abbrev pub GoesOn : Around → List Task → State → Type 0
+GoesOn u ts st = HasOwn u.trials ts × StaysWithin u.trials st
+
+-- A run has come to a place of some kind, where probes have read so many nodes and so many tables were refused.
+pub record StopsWhere (P : Place → Type 0) (o : RenderOptions) (a : Place) (probes refused : ℕ) : Type 0 where
+  pub at : Place
+  pub comes : Comes o a at
+  pub there : P at
+  pub read : at.probes ≡ probes
+  pub refusals : at.around.refused ≡ refused
+
+-- The visit of the next node was refused memory.
+pub record NextInPart (o : RenderOptions) (a : Place) (probes : ℕ) : Type 0 where
+  pub task : Task
+  pub below : List Task
+  pub next : a.tasks ≡ task ∷ below
+  pub own : HasOwn a.around.trials a.tasks
+  pub within : 0 < each_probe task.tree task.mode → StaysWithin a.around.trials a.state
+  pub asks : AsksInPart a.around.has o task below a.state a.probes probes
+
+-- A run was refused memory: at a place, or in the visit of the next node.
+pub record StopsInPart (o : RenderOptions) (a : Place) (probes refused : ℕ) : Type 0 where
+  pub at : Place
+  pub comes : Comes o a at
+  pub part : (probes ≡ at.probes) ⊎ NextInPart o at probes
+  pub refusals : at.around.refused ≡ refused
+
+-- ---- Turns
+
+-- the next node fails, in these trials
+abbrev pub FailsIn : RenderOptions → Around → Place → Type 0
+FailsIn o u a = NextFails o a × (a.around ≡ u)
+
+-- wherever it is
+abbrev pub Anywhere : Place → Type 0
+Anywhere a = Unit {0}
+
+-- A union comes next, with a printer's tasks after it.
+pub record ComesToChoice (o : RenderOptions) (a : Place) (u : Around) (i : ℕ) (x y : Tree) (q : Standing) (probes : ℕ) : Type 0 where
+  pub task : Task
+  pub comes : Comes o a (place_with task q probes u)
+  pub chooses : NextChooses o (place_with task q probes u) i x y q.tasks
+
+-- the course of a turn
+abbrev pub TurnCourse : {N E : Type 0} → (N → Tree) → RenderOptions → Place → Around → Standing → ℕ → Result (TurnResult N) (RenderError E)
+    → Type 0
+TurnCourse f o a u q probes (Ok turn_result.Complete) = Comes o a (place_at q probes u)
+TurnCourse f o a u q probes (Ok turn_result.Shift) = Comes o a (place_at q probes u)
+TurnCourse f o a u q probes (Ok turn_result.Failed) = StopsWhere (FailsIn o u) o a probes u.refused
+TurnCourse f o a u q probes (Ok (turn_result.Choice c)) = ComesToChoice o a u c.indent (f c.first) (f c.second) q probes
+TurnCourse f o a u q probes (Err (Document e)) = ⊥
+TurnCourse f o a u q probes (Err (Sink e)) = StopsWhere Anywhere o a probes u.refused
+TurnCourse f o a u q probes (Err (Memory e)) = StopsInPart o a probes u.refused
+
+-- ---- Trials
+
+-- these trials are open, over such nodes, after so many refusals
+abbrev pub around : List Waiting → Bool → ℕ → Around
+around ws has refused = record { trials = ws; has = has; refused = refused }
+
+-- A printer is in the trial that waits, with so many tasks below its branch, and nothing of it went past the width.
+pub record IsIn (w : Waiting) (below : ℕ) (p : Standing) : Type 0 where
+  pub height : below ≡ length w.tasks
+  pub within : p.within ≡ true
+  pub above : List Task
+  pub stack : p.tasks ≡ above ++ w.tasks
+
+-- the innermost trial is rejected here
+abbrev pub RejectedIn : RenderOptions → Waiting → Around → Place → Type 0
+RejectedIn o w u a = IsRejected o w a × (a.around ≡ u)
+
+-- the course of a turn of a trial, or of its end
+abbrev pub TrialCourse : {N E : Type 0} → (N → Tree) → RenderOptions → Place → Waiting → Around → Standing → ℕ → Result (TrialState N) E
+    → Type 0
+TrialCourse f o a w u q probes (Ok trial_state.Running) = Comes o a (place_at q probes u)
+TrialCourse f o a w u q probes (Ok trial_state.Complete) = Comes o a (place_at q probes u)
+TrialCourse f o a w u q probes (Ok trial_state.Shift) = Comes o a (place_at q probes u)
+TrialCourse f o a w u q probes (Ok trial_state.Rejected) = StopsWhere (RejectedIn o w u) o a probes u.refused
+TrialCourse f o a w u q probes (Ok (trial_state.Choice c)) = ComesToChoice o a u c.indent (f c.first) (f c.second) q probes
+TrialCourse f o a w u q probes (Err e) = StopsInPart o a probes u.refused
+
+-- the same for each trial that it may be in, inside of others
+abbrev pub TrialCourses : {N E : Type 0} → (N → Tree) → ℕ → Bool → Point → Point → Result (TrialState N) E → Type 0
+TrialCourses f below has a b r =
+    (w : Waiting) (ws : List Waiting) (refused : ℕ) → IsIn w below a.printer →
+    TrialCourse f a.printer.options (place_at a.printer a.visits.probes (around (w ∷ ws) has refused)) w (around (w ∷ ws) has refused)
+    b.printer b.visits.probes r
+
+-- a trial that is open, and its second branch
+abbrev pub waiting_of : Trial → Tree → Waiting
+waiting_of t y = record { indent = t.indent; second = y; tasks = t.start.printer.tasks; state = state_at t.start.printer }
+
+-- trials from one inwards, before these
+abbrev pub chain_waits : (o : Trial) (us : List Held) (t : Trial) → Chain o us t → List Waiting → List Waiting
+chain_waits o [] t h ws = ws
+chain_waits o (u ∷ us) t h ws = chain_waits h.0 us t h.2 (waiting_of h.0 u.second ∷ ws)
+
+-- all that are open, the innermost first
+abbrev pub open_waits : (s : Trial) (y : Tree) (us : List Held) (b : Point) → Open s y us b → List Waiting
+open_waits s y [] b h = []
+open_waits s y (u ∷ us) b h = chain_waits s us h.trial h.chain (waiting_of s y ∷ [])
+
+-- A run has come from a place to a point in open trials.
+pub record ComesInTrials (o : RenderOptions) (a : Place) (has : Bool) (refused : ℕ) (s : Trial) (y : Tree) (us : List Held) (b : Point)
+    : Type 0 where
+  pub trials : Open s y us b
+  pub comes : Comes o a (place_at b.printer b.visits.probes (around (open_waits s y us b trials) has refused))
+
+-- the course of open trials
+abbrev pub TrialsCourse : {E : Type 0} → RenderOptions → Place → Bool → ℕ → Trial → Tree → Point → List Held → Result TrialResult E → Type 0
+TrialsCourse o a has refused s y b us (Ok trial_result.Kept) = Comes o a (place_at b.printer b.visits.probes (around [] has refused))
+TrialsCourse o a has refused s y b us (Ok trial_result.Rejected) = Comes o a (place_at b.printer b.visits.probes (around [] has refused))
+TrialsCourse o a has refused s y b us (Ok trial_result.Shift) = ComesInTrials o a has refused s y us b
+TrialsCourse o a has refused s y b us (Err e) = StopsInPart o a b.visits.probes refused
+
+-- ---- Texts
+
+-- the state after an outcome that is done
+abbrev pub state_after : State → Outcome → State
+state_after st (Done b u) = u
+state_after st (Failed b) = st
+
+-- the state after a document was laid flat that is its texts alone
+abbrev pub after_texts : RenderOptions → Tree → State → State
+after_texts o (Text s) st = state_after st (lay_text o (length s) s st)
+after_texts o (Append l r) st = after_texts o r (after_texts o l st)
+after_texts o (Nest k d) st = after_texts o d st
+after_texts o (BreakOrFlat b f) st = after_texts o f st
+after_texts o (Group d) st = after_texts o d st
+after_texts o _ st = st
+
+-- the same of documents one after another
+abbrev pub after_all : RenderOptions → List Tree → State → State
+after_all o [] st = st
+after_all o (d ∷ ds) st = after_all o ds (after_texts o d st)
