@@ -1,6 +1,6 @@
 -- The course of open trials: how what is held of them waits, and what becomes of the innermost one.
 use Rattle.std.proofs.Common.{◌≡◌, ℕ, ◌+◌, ◌≤◌, ◌<◌, Bool, true, false, List, [], ◌∷◌, ◌++◌, length, refl, ap, sym, ◌∙◌, arith, subst, inl, inr}
-use Rattle.std.proofs.Common.{Result, Ok, Err}
+use Rattle.std.proofs.Common.{IsErr, Result, Ok, Err}
 use Rattle.std.specs.Str.{IsUtf8}
 use Rattle.prettyless_sink.specs.Sink.{known}
 use Rattle.prettyless_sink.specs.declared.error.RenderError.{RenderError}
@@ -13,14 +13,16 @@ use Rattle.prettyless_probe.specs.Stack.{Task, make_task}
 use Rattle.prettyless_printer.specs.declared.answer.Choice.{Choice}
 use Rattle.prettyless_printer.specs.declared.answer.TrialState.{TrialState}
 use Rattle.prettyless_printer.specs.declared.answer.TrialState.TheVariants as trial_state
+use Rattle.prettyless_printer.specs.declared.answer.TrialResult.{TrialResult}
+use Rattle.prettyless_printer.specs.declared.run.Run.{Run}
 use Rattle.prettyless_printer.specs.declared.trial.Mark.{Mark}
-use Rattle.prettyless_printer.specs.Points.{Point, Seen, Standing, point_at, state_at}
+use Rattle.prettyless_printer.specs.Points.{Point, Seen, Standing, point_at, state_at, trial_point}
 use Rattle.prettyless_printer.specs.Trials.{AtChoice, Marks, Restores, Trial, TrialComplete, TrialRejected, TrialRunning, TrialTurns}
 use Rattle.prettyless_printer.specs.Trials.{make_trial}
-use Rattle.prettyless_printer.specs.Open.{BeginsTrial, Chain, Held, Link, Marked, Open, Opens, below_all, below_last}
+use Rattle.prettyless_printer.specs.Open.{BeginsTrial, Chain, Held, Link, Marked, Open, Opens, below_all, held_of}
 use Rattle.prettyless_printer.specs.Course.{Around, Comes, KeepBranch, Place, TakeSecond, TryBranch, Waiting, end_fits, place}
 use Rattle.prettyless_printer.specs.CourseOf.{ComesInTrials, ComesToChoice, FailsIn, GoesOn, IsIn, RejectedIn, StopsInPart, StopsWhere}
-use Rattle.prettyless_printer.specs.CourseOf.{TrialCourse, TrialCourses, TurnCourse, around, chain_waits, open_waits, place_at, waiting_of}
+use Rattle.prettyless_printer.specs.CourseOf.{TrialCourse, TrialCourses, TrialsCourse, TurnCourse, around, chain_waits, open_waits, place_at, waiting_of}
 use Rattle.prettyless_printer.proofs.Chains.{Took, back_inner, chain_last, chain_pop, chain_push, first_last, kept_inner, more_inner}
 use Rattle.prettyless_printer.proofs.Courses.{come_by, come_same, come_then, refused_here, stops_in_part_after}
 use Rattle.prettyless_printer.proofs.Standings.{Flagged, Pushed}
@@ -38,9 +40,9 @@ pub open_options : (s : Trial) (y : Tree) (us : List Held) (b : Point) → Open 
 open_options s y [] b h = absurd h
 open_options s y (u ∷ us) b h = h.on.path.options ∙ chain_options s us h.trial h.chain
 
-pub same_options : {s : Trial} {y : Tree} {us vs : List Held} {a b : Point} → Open s y us a → Open s y vs b
+pub same_options : (s : Trial) (y : Tree) (us vs : List Held) (a b : Point) → Open s y us a → Open s y vs b
     → b.printer.options ≡ a.printer.options
-same_options {s} {y} {us} {vs} {a} {b} h k = open_options s y vs b k ∙ sym (open_options s y us a h)
+same_options s y us vs a b h k = open_options s y vs b k ∙ sym (open_options s y us a h)
 
 -- ---- How trials wait
 
@@ -395,3 +397,30 @@ module _ {N : Type 0} (E : Type 0) (f : N → Tree) {o : RenderOptions} {a0 : Pl
       course_back_outer u r (subst (λ (z : List Held). ComesInTrials o a0 has refused s y z a) only now) same
       (subst (λ (z : List Held). TrialTurns {E = E} f (below_all z) a b (Ok trial_state.Rejected)) only turns)
       (subst (λ (z : List Held). TrialCourses {E = E} f (below_all z) has a b (Ok trial_state.Rejected)) only courses) back pushed
+
+-- ---- By other names
+
+-- the same trials are held
+pub in_held : {o : RenderOptions} {a : Place} {has : Bool} {refused : ℕ} {s : Trial} {y : Tree} {us vs : List Held} {b : Point} → us ≡ vs
+    → ComesInTrials o a has refused s y vs b → ComesInTrials o a has refused s y us b
+in_held {o} {a} {has} {refused} {s} {y} {b = b} e h = subst (λ (z : List Held). ComesInTrials o a has refused s y z b) (sym e) h
+
+pub in_run : {N : Type 0} (f : N → Tree) {o : RenderOptions} {a : Place} {has : Bool} {refused : ℕ} {s : Trial} {y : Tree} (q r : Run N)
+    → q ≡ r → ComesInTrials o a has refused s y (held_of f r) (trial_point f r)
+    → ComesInTrials o a has refused s y (held_of f q) (trial_point f q)
+in_run f {o} {a} {has} {refused} {s} {y} q r e h =
+    subst (λ (z : Run _). ComesInTrials o a has refused s y (held_of f z) (trial_point f z)) (sym e) h
+
+pub opens_in : {N : Type 0} {f : N → Tree} {i : ℕ} {y : Tree} {p : Standing} {s : Seen} {us vs ws : List Held} → us ≡ vs
+    → Opens f i y p s us ws → Opens f i y p s vs ws
+opens_in {f = f} {i} {y} {p} {s} {ws = ws} e h = subst (λ (z : List Held). Opens f i y p s z ws) e h
+
+-- as much was read
+pub part_at : {o : RenderOptions} {a : Place} {k n refused : ℕ} → n ≡ k → StopsInPart o a k refused → StopsInPart o a n refused
+part_at {o} {a} {refused = refused} e h = subst (λ (z : ℕ). StopsInPart o a z refused) (sym e) h
+
+-- it ended in an error
+pub trials_error : {E : Type 0} {o : RenderOptions} {a : Place} (has : Bool) {refused : ℕ} (s : Trial) (y : Tree) (b : Point) (us : List Held)
+    (r : Result TrialResult E) → IsErr r → StopsInPart o a b.visits.probes refused → TrialsCourse o a has refused s y b us r
+trials_error has s y b us (Ok x) e h = absurd (cc)
+trials_error has s y b us (Err x) e h = h

@@ -16,12 +16,10 @@ use Rattle.prettyless_printer.specs.Spending.{Spends, left_of, none_left, rule_o
 use Rattle.prettyless_printer.proofs.Chains.{all_held-push, ends_error, error_at, last_kept, last_other, length-all_held, open_error}
 use Rattle.prettyless_printer.proofs.Chains.{open_choice_error, open_rejected_error, open_rejected, open_goes, open_kept, open_more}
 use Rattle.prettyless_printer.proofs.Chains.{open_other, open_some, open_stops, took}
-use Rattle.std.proofs.lemmas.Result.{err_from_is_err_and}
-use Rattle.prettyless_printer.specs.Open.{Opens}
-use Rattle.prettyless_printer.specs.CourseOf.{ComesInTrials, StopsInPart}
 use Rattle.prettyless_printer.proofs.Courses.{come_same}
 use Rattle.prettyless_printer.proofs.OpenCourses.{course_error, course_error_choice, course_error_rejected, course_goes, course_kept}
-use Rattle.prettyless_printer.proofs.OpenCourses.{course_kept_last, course_more, course_other, course_other_last, course_stays, same_options}
+use Rattle.prettyless_printer.proofs.OpenCourses.{course_kept_last, course_more, course_other, course_other_last, course_stays, in_held, in_run}
+use Rattle.prettyless_printer.proofs.OpenCourses.{opens_in, part_at, same_options, trials_error}
 use Rattle.prettyless_printer.proofs.Costs.{left_at, less_goes, less_more, less_kept, less_other}
 use Rattle.prettyless_printer.proofs.Trying.{cut_back, flagged, pushed, queue_marked}
 use Rattle.prettyless_printer.proofs.Standings.{length_queue}
@@ -36,6 +34,11 @@ same_open {N} f us vs same = ap (λ (t : Trials N). all_held f t.open.items) sam
 -- and the measure was the same of them
 falls_at : {n : ℕ} (a : Point) {us vs : List Held} → vs ≡ us → n < left_at a vs → n < left_at a us
 falls_at {n} a same less = subst (λ (z : List Held). n < left_at a z) same less
+
+-- the options are those of before
+options_at : {N : Type 0} (f : N → Tree) (s : Trial) (y : Tree) (q r : Run N) → Open s y (held_of f q) (trial_point f q)
+    → Open s y (held_of f r) (trial_point f r) → r.printer.options ≡ q.printer.options
+options_at f s y q r h k = same_options s y (held_of f q) (held_of f r) (trial_point f q) (trial_point f r) h k
 
 pub work-init : goal.work-init
 work-init g c = record {
@@ -83,10 +86,9 @@ work-preserved-in-Running g c =
           (c.work.invariant.spends s y h plain) (rw c.in-Running.is at c.in_ok-advance.ensures.spends);
       course = λ s y h refused.
           let now = c.work.invariant.course s y h refused in
-          subst (λ (us : List Held). ComesInTrials c.args.self.now.printer.options _ g.N.Walk.HAS_SUMMARIES refused s y us
-          (trial_point f c.advance.new.self)) (sym same)
+          in_held same
           (course_goes AllocError f g.N.Walk.HAS_SUMMARIES (trial_point f c.advance.new.self) (held_of f c.work.self) now
-          (same_options h now.trials) course (rw c.in-Running.is at c.in_ok-advance.ensures.course));
+          (options_at f s y c.args.self.now c.work.self h now.trials) course (rw c.in-Running.is at c.in_ok-advance.ensures.course));
       summed = c.in_ok-advance.ensures.summed;
     }
 
@@ -155,7 +157,7 @@ work-preserved-else-is_empty g c =
           let now = c.work.invariant.course s y h refused in
           course_kept AllocError f g.N.Walk.HAS_SUMMARIES (trial_point f new) (all_held f us) (held f c.in-Some.trial)
           (sym same ∙ all_held-push f _ us c.in-Some.trial c.in-Some.ensures.items) (omega (arith, length-all_held f us, inner)) now
-          (same_options h now.trials) course (rw c.in-Complete.is at c.in_ok-advance.ensures.course)
+          (options_at f s y c.args.self.now c.work.self h now.trials) course (rw c.in-Complete.is at c.in_ok-advance.ensures.course)
           (flagged c.in-Some.trial.mark.within (standing f new.printer));
       summed = c.in_ok-advance.ensures.summed;
     }
@@ -262,7 +264,7 @@ work-preserved-else-is_empty-2 g c =
           let now = c.work.invariant.course s y h refused in
           course_other AllocError f g.N.Walk.HAS_SUMMARIES (trial_point f new) (all_held f us) (held f c.in-Some-pop.trial) (standing f r)
           (sym same ∙ all_held-push f _ us c.in-Some-pop.trial c.in-Some-pop.ensures.items) (omega (arith, length-all_held f us, inner)) now
-          (same_options h now.trials) course (rw c.in-Rejected.is at c.in_ok-advance.ensures.course) c.undo.ensures.printer
+          (options_at f s y c.args.self.now c.work.self h now.trials) course (rw c.in-Rejected.is at c.in_ok-advance.ensures.course) c.undo.ensures.printer
           (record { is_known = refl; bytes = c.undo.ensures.buffer; failures = c.undo.ensures.failures; lender = refl })
           (pushed (standing f q) c.in_ok-push-in-Rejected.ensures.pushed refl refl refl);
       summed = c.in_ok-push-in-Rejected.ensures.summed (c.undo.ensures.summed c.in_ok-advance.ensures.summed);
@@ -304,11 +306,10 @@ work-preserved g c =
           (c.work.invariant.spends s y h plain) (rw c.in-Choice.is at c.in_ok-advance.ensures.spends)));
       course = λ s y h refused.
           let now = c.work.invariant.course s y h refused in
-          subst (λ (r : Run _). ComesInTrials c.args.self.now.printer.options _ g.N.Walk.HAS_SUMMARIES refused s y (held_of f r)
-          (trial_point f r)) (sym others)
+          in_run f c.open_trial.new.self _ others
           (course_more AllocError f g.N.Walk.HAS_SUMMARIES (trial_point f c.advance.new.self) c.in-Choice.choice (held_of f old)
-          (held_of f next) now (same_options h now.trials) course (rw c.in-Choice.is at c.in_ok-advance.ensures.course)
-          (subst (λ (us : List Held). Opens f _ _ _ _ us (held_of f next)) same c.in_ok-open_trial-in-Choice.ensures.held)
+          (held_of f next) now (options_at f s y c.args.self.now c.work.self h now.trials) course (rw c.in-Choice.is at c.in_ok-advance.ensures.course)
+          (opens_in same c.in_ok-open_trial-in-Choice.ensures.held)
           c.in_ok-open_trial-in-Choice.ensures.begun (IsUtf8-string_bytes c.advance.new.self.buffer.text));
       summed = c.in_ok-open_trial-in-Choice.ensures.summed;
     }
@@ -391,12 +392,11 @@ returns-in_err-open_trial-in-Choice-clause-spends g c =
 pub returns-in_err-advance-clause-course : goal.returns-in_err-advance-clause-course
 returns-in_err-advance-clause-course g c =
     let f = g.N.Walk.tree in
-    let residual = err_from_is_err_and c.from_residual.result c.from_residual.ensures.1 in
-    rw (residual.1, residual.2)
     λ s y h refused.
     let now = c.work.invariant.course s y h refused in
-    course_error AllocError f g.N.Walk.HAS_SUMMARIES (trial_point f c.advance.new.self) _ (held_of f c.work.self) now
-    (same_options h now.trials) c.in_err-advance.ensures.course
+    trials_error g.N.Walk.HAS_SUMMARIES s y (trial_point f c.advance.new.self) (held_of f c.advance.new.self) c.from_residual.result c.from_residual.ensures.0
+    (course_error AllocError f g.N.Walk.HAS_SUMMARIES (trial_point f c.advance.new.self) _ (held_of f c.work.self) now
+    (options_at f s y c.args.self.now c.work.self h now.trials) c.in_err-advance.ensures.course)
 
 -- it stopped
 pub returns-in-Shift-clause-course : goal.returns-in-Shift-clause-course
@@ -404,10 +404,9 @@ returns-in-Shift-clause-course g c = λ s y h refused.
     let f = g.N.Walk.tree in
     let now = c.work.invariant.course s y h refused in
     let same = same_open f _ _ c.advance.ensures.trials in
-    subst (λ (us : List Held). ComesInTrials c.args.self.now.printer.options _ g.N.Walk.HAS_SUMMARIES refused s y us
-    (trial_point f c.advance.new.self)) (sym same)
+    in_held same
     (course_stays AllocError f g.N.Walk.HAS_SUMMARIES (trial_point f c.advance.new.self) (held_of f c.work.self) now
-    (same_options h now.trials) (rw c.in-Shift.is at c.in_ok-advance.ensures.courses)
+    (options_at f s y c.args.self.now c.work.self h now.trials) (rw c.in-Shift.is at c.in_ok-advance.ensures.courses)
     (rw c.in-Shift.is at c.in_ok-advance.ensures.course))
 
 -- the outermost one is kept
@@ -419,7 +418,7 @@ returns-then-is_empty-clause-course g c = λ s y h refused.
     let same = same_open f _ _ c.advance.ensures.trials in
     let none : all_held f us ≡ [] = nil_from_length (all_held f us) (length-all_held f us ∙ c.is_empty.ensures.none c.if-is_empty.true) in
     course_kept_last AllocError f g.N.Walk.HAS_SUMMARIES (trial_point f c.advance.new.self) (all_held f us) (held f c.in-Some.trial)
-    (sym same ∙ all_held-push f _ us c.in-Some.trial c.in-Some.ensures.items) none now (same_options h now.trials)
+    (sym same ∙ all_held-push f _ us c.in-Some.trial c.in-Some.ensures.items) none now (options_at f s y c.args.self.now c.work.self h now.trials)
     (rw c.in-Complete.is at c.in_ok-advance.ensures.courses) (rw c.in-Complete.is at c.in_ok-advance.ensures.course)
     (flagged c.in-Some.trial.mark.within (standing f c.advance.new.self.printer))
 
@@ -427,12 +426,16 @@ returns-then-is_empty-clause-course g c = λ s y h refused.
 pub returns-in_err-push-in-Rejected-clause-course : goal.returns-in_err-push-in-Rejected-clause-course
 returns-in_err-push-in-Rejected-clause-course g c =
     let f = g.N.Walk.tree in
-    let residual = err_from_is_err_and c.from_residual-in_err-push-in-Rejected.result c.from_residual-in_err-push-in-Rejected.ensures.1 in
-    rw (residual.1, residual.2)
     λ s y h refused.
     let now = c.work.invariant.course s y h refused in
-    course_error_rejected AllocError f g.N.Walk.HAS_SUMMARIES (trial_point f c.advance.new.self) (held_of f c.work.self) now
-    (same_options h now.trials) (rw c.in-Rejected.is at c.in_ok-advance.ensures.course)
+    let next = record c.advance.new.self {
+      printer = record c.undo.new.printer { commands = c.push.new.self };
+      buffer = c.undo.new.buffer;
+    } in
+    trials_error g.N.Walk.HAS_SUMMARIES s y (trial_point f next) (all_held f c.pop-in-Rejected.new.self.items)
+    c.from_residual-in_err-push-in-Rejected.result c.from_residual-in_err-push-in-Rejected.ensures.0
+    (course_error_rejected AllocError f g.N.Walk.HAS_SUMMARIES (trial_point f c.advance.new.self) (held_of f c.work.self) now
+    (options_at f s y c.args.self.now c.work.self h now.trials) (rw c.in-Rejected.is at c.in_ok-advance.ensures.course))
 
 -- the outermost one is undone
 pub returns-then-is_empty-2-clause-course : goal.returns-then-is_empty-2-clause-course
@@ -446,7 +449,7 @@ returns-then-is_empty-2-clause-course g c = λ s y h refused.
     let none : all_held f us ≡ [] =
     nil_from_length (all_held f us) (length-all_held f us ∙ c.is_empty-in-Rejected.ensures.none c.if-is_empty-2.true) in
     course_other_last AllocError f g.N.Walk.HAS_SUMMARIES (trial_point f c.advance.new.self) (all_held f us) (held f c.in-Some-pop.trial)
-    (standing f r) (sym same ∙ all_held-push f _ us c.in-Some-pop.trial c.in-Some-pop.ensures.items) none now (same_options h now.trials)
+    (standing f r) (sym same ∙ all_held-push f _ us c.in-Some-pop.trial c.in-Some-pop.ensures.items) none now (options_at f s y c.args.self.now c.work.self h now.trials)
     (rw c.in-Rejected.is at c.in_ok-advance.ensures.courses) (rw c.in-Rejected.is at c.in_ok-advance.ensures.course)
     c.undo.ensures.printer (pushed (standing f q) c.in_ok-push-in-Rejected.ensures.pushed refl refl refl)
 
@@ -454,12 +457,11 @@ returns-then-is_empty-2-clause-course g c = λ s y h refused.
 pub returns-in_err-open_trial-in-Choice-clause-course : goal.returns-in_err-open_trial-in-Choice-clause-course
 returns-in_err-open_trial-in-Choice-clause-course g c =
     let f = g.N.Walk.tree in
-    let residual = err_from_is_err_and c.from_residual-in_err-open_trial-in-Choice.result
-    c.from_residual-in_err-open_trial-in-Choice.ensures.1 in
-    rw (residual.1, residual.2)
     λ s y h refused.
     let now = c.work.invariant.course s y h refused in
-    subst (λ (v : Visits). StopsInPart c.args.self.now.printer.options _ v.probes refused)
-    (sym (ap (λ (r : Run _). r.visits) c.open_trial.ensures.others))
+    trials_error g.N.Walk.HAS_SUMMARIES s y (trial_point f c.open_trial.new.self) (held_of f c.open_trial.new.self)
+    c.from_residual-in_err-open_trial-in-Choice.result c.from_residual-in_err-open_trial-in-Choice.ensures.0
+    (part_at (ap (λ (r : Run _). r.visits.probes) c.open_trial.ensures.others)
     (course_error_choice AllocError f g.N.Walk.HAS_SUMMARIES (trial_point f c.advance.new.self) c.in-Choice.choice (held_of f c.work.self) now
-    (same_options h now.trials) (rw c.in-Choice.is at c.in_ok-advance.ensures.course))
+    (options_at f s y c.args.self.now c.work.self h now.trials) (rw c.in-Choice.is at c.in_ok-advance.ensures.course)))
+
