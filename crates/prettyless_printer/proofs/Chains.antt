@@ -99,7 +99,7 @@ on_begun {a} {i} {d} {q} marked begins = record {
 }
 
 -- the outermost one begins
-pub open_begins : {a : Point} {m : Mark} {i : ℕ} {x : Tree} {q : Standing} (y : Tree) → Marked m a → BeginsTrial i x a.printer q →
+unfoldable pub open_begins : {a : Point} {m : Mark} {i : ℕ} {x : Tree} {q : Standing} (y : Tree) → Marked m a → BeginsTrial i x a.printer q →
     Open (make_trial a i x) y (record { mark = m; indent = i; second = y } ∷ []) (point_at q a.sink a.visits)
 open_begins {a} {i} {x} y marked begins = record {
   holds = record { indent = refl; second = refl; marked = marked };

@@ -26,3 +26,4 @@ pub mod Forgetting
 pub mod ShiftSpending
 pub mod Courses
 pub mod OpenCourses
+pub mod RunCourses

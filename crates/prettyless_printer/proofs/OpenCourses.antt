@@ -119,7 +119,7 @@ undone_follows {o} {a} {t} {y} {b} {m} {i} {r} {q} {outer} {has} {k} {refused} s
     }))
 
 -- a trial more is open
-tried_follows : {o : RenderOptions} {a : Place} {i : ℕ} {x y : Tree} (b : Point) {q : Standing} {ws : List Waiting} {has : Bool}
+pub tried_follows : {o : RenderOptions} {a : Place} {i : ℕ} {x y : Tree} (b : Point) {q : Standing} {ws : List Waiting} {has : Bool}
     {k refused : ℕ} → ComesToChoice o a (around ws has refused) i x y b.printer k → BeginsTrial i x b.printer q
     → Comes o a (place_at q k (around (waiting_of (make_trial b i x) y ∷ ws) has refused))
 tried_follows {o} {a} {i} {x} {y} b {q} {ws} {has} {k} {refused} h begins =

@@ -13,9 +13,12 @@ use Rattle.prettyless_printer.specs.declared.answer.TrialState.{TrialState}
 use Rattle.prettyless_printer.specs.declared.answer.TrialState.TheVariants as trial_state
 use Rattle.prettyless_printer.specs.declared.answer.TrialResult.{TrialResult}
 use Rattle.prettyless_printer.specs.declared.answer.TrialResult.TheVariants as trial_result
-use Rattle.prettyless_printer.specs.Points.{Point, Standing, state_at}
-use Rattle.prettyless_printer.specs.Trials.{Trial}
+use Rattle.prettyless_printer.specs.declared.answer.RunResult.{RunResult}
+use Rattle.prettyless_printer.specs.declared.answer.RunResult.TheVariants as run_result
+use Rattle.prettyless_printer.specs.Points.{Point, Standing, point_at, state_at}
+use Rattle.prettyless_printer.specs.Trials.{Trial, make_trial}
 use Rattle.prettyless_printer.specs.Open.{Chain, Held, Open}
+use Rattle.prettyless_printer.specs.Runs.{InChoice, Station}
 use Rattle.prettyless_printer.specs.Course.{Around, AsksInPart, Comes, HasOwn, IsRejected, NextChooses, NextFails}
 use Rattle.prettyless_printer.specs.Course.{Place, StaysWithin, Waiting, place}
 
@@ -142,6 +145,78 @@ TrialsCourse o a has refused s y b us (Ok trial_result.Kept) = Comes o a (place_
 TrialsCourse o a has refused s y b us (Ok trial_result.Rejected) = Comes o a (place_at b.printer b.visits.probes (around [] has refused))
 TrialsCourse o a has refused s y b us (Ok trial_result.Shift) = ComesInTrials o a has refused s y us b
 TrialsCourse o a has refused s y b us (Err e) = StopsInPart o a b.visits.probes refused
+
+-- ---- Runs
+
+-- the trials of a choice that are open, the innermost first
+abbrev pub choice_waits : (i : ℕ) (x y : Tree) (a : Point) (z : Station) → InChoice i x y a z → List Waiting
+choice_waits i x y a z h =
+    open_waits (make_trial (point_at a.printer h.before a.visits) i x) y z.held (point_at z.point.printer z.buffer z.point.visits) h.trials
+
+-- A run has come from a place to a station in a choice.
+pub record ComesInChoice (o : RenderOptions) (b : Place) (has : Bool) (refused i : ℕ) (x y : Tree) (a : Point) (z : Station) : Type 0 where
+  pub choice : InChoice i x y a z
+  pub comes : Comes o b (place_at z.point.printer z.point.visits.probes (around (choice_waits i x y a z choice) has refused))
+
+-- the course of a run that ended in an error
+abbrev pub ErrorCourse : {E : Type 0} → RenderOptions → Place → ℕ → ℕ → RenderError E → Type 0
+ErrorCourse o b probes refused (Document e) = StopsWhere (NextFails o) o b probes refused
+ErrorCourse o b probes refused (Sink e) = StopsWhere Anywhere o b probes refused
+ErrorCourse o b probes refused (Memory e) = StopsInPart o b probes refused
+
+-- a run has come from a place to a station outside of trials
+abbrev pub ComesAlone : RenderOptions → Place → Bool → ℕ → Station → Type 0
+ComesAlone o b has refused z = Comes o b (place_at z.point.printer z.point.visits.probes (around [] has refused))
+
+-- the course of a choice
+abbrev pub ChoiceCourse : {E : Type 0} → RenderOptions → Place → Bool → ℕ → ℕ → Tree → Tree → Point → Station
+    → Result RunResult (RenderError E) → Type 0
+ChoiceCourse o b has refused i x y a z (Ok run_result.Finished) = ComesAlone o b has refused z
+ChoiceCourse o b has refused i x y a z (Ok run_result.Shift) = ComesInChoice o b has refused i x y a z
+ChoiceCourse o b has refused i x y a z (Err e) = ErrorCourse o b z.point.visits.probes refused e
+
+-- The trials of a choice wait at a station.
+pub record WaitsInChoice (z : Station) (ws : List Waiting) : Type 0 where
+  pub indent : ℕ
+  pub first : Tree
+  pub second : Tree
+  pub start : Point
+  pub choice : InChoice indent first second start z
+  pub are : ws ≡ choice_waits indent first second start z choice
+
+-- these trials wait at a station
+abbrev pub WaitWith : List Held → Station → List Waiting → Type 0
+WaitWith [] z ws = ws ≡ []
+WaitWith (u ∷ us) z ws = WaitsInChoice z ws
+
+-- A run has come from a place to a station, where these trials wait.
+pub record ComesToStation (o : RenderOptions) (b : Place) (has : Bool) (refused : ℕ) (z : Station) : Type 0 where
+  pub waiting : List Waiting
+  pub are : WaitWith z.held z waiting
+  pub comes : Comes o b (place_at z.point.printer z.point.visits.probes (around waiting has refused))
+
+-- the course of a run of commands
+abbrev pub CommandsCourse : {E : Type 0} → RenderOptions → Place → Bool → ℕ → Station → Result RunResult (RenderError E) → Type 0
+CommandsCourse o b has refused z (Ok run_result.Finished) = ComesAlone o b has refused z
+CommandsCourse o b has refused z (Ok run_result.Shift) = ComesToStation o b has refused z
+CommandsCourse o b has refused z (Err e) = ErrorCourse o b z.point.visits.probes refused e
+
+-- Nothing is left.
+pub record IsDone (a : Place) : Type 0 where
+  pub tasks : a.tasks ≡ []
+  pub pending : a.state.pending ≡ []
+  pub alone : a.around.trials ≡ []
+
+-- the course of a run to the end
+abbrev pub EndCourse : {A E : Type 0} → RenderOptions → Place → ℕ → ℕ → Result A (RenderError E) → Type 0
+EndCourse o b probes refused (Ok x) = StopsWhere IsDone o b probes refused
+EndCourse o b probes refused (Err e) = ErrorCourse o b probes refused e
+
+-- the same of a run that may stop
+abbrev pub EndCourseOrStop : {E : Type 0} → RenderOptions → Place → Bool → ℕ → Station → Result RunResult (RenderError E) → Type 0
+EndCourseOrStop o b has refused z (Ok run_result.Finished) = StopsWhere IsDone o b z.point.visits.probes refused
+EndCourseOrStop o b has refused z (Ok run_result.Shift) = ComesToStation o b has refused z
+EndCourseOrStop o b has refused z (Err e) = ErrorCourse o b z.point.visits.probes refused e
 
 -- ---- Texts
 

@@ -1,11 +1,15 @@
 //! The run: commands are laid into a sink until none is left, and then what is pending at the end.
 //! It knows turns and trials, and no table.
-ghost use Rattle.std.specs.Prelude.{◌≡◌, ◌^◌, ◌-◌, [], ℕ, OnOk};
+ghost use Rattle.std.specs.Prelude.{◌≡◌, ◌^◌, ◌-◌, [], List, ℕ, OnOk};
 ghost use Rattle.prettyless_model.specs.Tree.{Tree};
 ghost use Rattle.prettyless_step.specs.Printing.{tasks_of};
 ghost use Rattle.prettyless_probe.specs.Sums.{IsSummed};
 ghost use Rattle.prettyless_printer.specs.Points.{Point, point_of, seen_by, standing};
 ghost use Rattle.prettyless_printer.specs.Renders.{FlushesEnd, RunsToEnd};
+ghost use Rattle.prettyless_printer.specs.Open.{held_of};
+ghost use Rattle.prettyless_printer.specs.Course.{Place, Waiting};
+ghost use Rattle.prettyless_printer.specs.CourseOf.{ChoiceCourse, ComesToChoice, CommandsCourse, EndCourse, EndCourseOrStop, WaitWith};
+ghost use Rattle.prettyless_printer.specs.CourseOf.{around, choice_waits, place_at};
 ghost use Rattle.prettyless_printer.specs.Visits.{Plain};
 ghost use Rattle.prettyless_printer.specs.Spending.{IsPlainChoice, Spends, SpendsAs, left_alone, left_choice, left_of, none_left, rule_of};
 ghost use Rattle.prettyless_printer.specs.Runs.{RunReaches, InChoice, RunsToEndOrStops, ChoosesOrStops, RunsCommandsOrStops, station_of};
@@ -73,6 +77,10 @@ impl<N: Walk> Run<N> {
         ensures spends { (i : ℕ) (x y : Tree) (a : Point) → InChoice i x y a (station_of N.tree self.old (seen_by W.Render out.old))
             → IsPlainChoice a.printer x y
             → SpendsAs (rule_of N.HAS_SUMMARIES limit) (left_of N.tree self.old) (left_of N.tree self.new) result }
+        ensures course { (i : ℕ) (x y : Tree) (a : Point) (h : InChoice i x y a (station_of N.tree self.old (seen_by W.Render out.old)))
+            (refused : ℕ) → ChoiceCourse self.old.printer.options (place_at (standing N.tree self.old.printer) self.old.visits.probes
+            (around (choice_waits i x y a (station_of N.tree self.old (seen_by W.Render out.old)) h) N.HAS_SUMMARIES refused))
+            N.HAS_SUMMARIES refused i x y a (station_of N.tree self.new (seen_by W.Render out.new)) result }
         ensures summed { OnOk result (IsSummed N.HAS_SUMMARIES N.tree self.new.printer.commands) }
     {
         match self.resume_trial(limit) {
@@ -101,6 +109,10 @@ impl<N: Walk> Run<N> {
             → SpendsAs (rule_of N.HAS_SUMMARIES limit)
             (left_choice choice.indent (N.tree choice.first) (N.tree choice.second) (standing N.tree self.old.printer) self.old.visits)
             (left_of N.tree self.new) result }
+        ensures course { (b : Place) (refused : ℕ) → ComesToChoice self.old.printer.options b (around [] N.HAS_SUMMARIES refused)
+            choice.indent (N.tree choice.first) (N.tree choice.second) (standing N.tree self.old.printer) self.old.visits.probes
+            → ChoiceCourse self.old.printer.options b N.HAS_SUMMARIES refused choice.indent (N.tree choice.first) (N.tree choice.second)
+            (point_of N.tree self.old (seen_by W.Render out.old)) (station_of N.tree self.new (seen_by W.Render out.new)) result }
         ensures summed { OnOk result (IsSummed N.HAS_SUMMARIES N.tree self.new.printer.commands) }
     {
         self.buffer.text.clear();
@@ -123,6 +135,9 @@ impl<N: Walk> Run<N> {
             (station_of N.tree self.new (seen_by W.Render out.new)) result }
         ensures spends { Plain (standing N.tree self.old.printer)
             → SpendsAs (rule_of N.HAS_SUMMARIES limit) (left_alone N.tree self.old) (left_of N.tree self.new) result }
+        ensures course { (refused : ℕ) → CommandsCourse self.old.printer.options
+            (place_at (standing N.tree self.old.printer) self.old.visits.probes (around [] N.HAS_SUMMARIES refused))
+            N.HAS_SUMMARIES refused (station_of N.tree self.new (seen_by W.Render out.new)) result }
         ensures summed { OnOk result (IsSummed N.HAS_SUMMARIES N.tree self.new.printer.commands) }
     {
         'work: while self.printer.commands.len() > 0 {
@@ -152,6 +167,9 @@ impl<N: Walk> Run<N> {
             (station_of N.tree self.new (seen_by W.Render out.new)) result }
         ensures spends { Plain (standing N.tree self.old.printer)
             → SpendsAs (rule_of N.HAS_SUMMARIES limit) (left_alone N.tree self.old) (left_of N.tree self.new) result }
+        ensures course { (refused : ℕ) → EndCourseOrStop self.old.printer.options
+            (place_at (standing N.tree self.old.printer) self.old.visits.probes (around [] N.HAS_SUMMARIES refused))
+            N.HAS_SUMMARIES refused (station_of N.tree self.new (seen_by W.Render out.new)) result }
         ensures summed { OnOk result (IsSummed N.HAS_SUMMARIES N.tree self.new.printer.commands) }
     {
         'rounds: loop {
@@ -180,6 +198,11 @@ impl<N: Walk> Run<N> {
             → RunsToEndOrStops (W.document_errors out.new) limit a (station_of N.tree self.new (seen_by W.Render out.new)) result }
         ensures spends { (a : Point) → RunReaches a (station_of N.tree self.old (seen_by W.Render out.old)) → Plain a.printer
             → SpendsAs (rule_of N.HAS_SUMMARIES limit) (left_of N.tree self.old) (left_of N.tree self.new) result }
+        ensures course { (ws : List Waiting) (refused : ℕ)
+            → WaitWith (held_of N.tree self.old) (station_of N.tree self.old (seen_by W.Render out.old)) ws
+            → EndCourseOrStop self.old.printer.options
+            (place_at (standing N.tree self.old.printer) self.old.visits.probes (around ws N.HAS_SUMMARIES refused))
+            N.HAS_SUMMARIES refused (station_of N.tree self.new (seen_by W.Render out.new)) result }
         ensures summed { OnOk result (IsSummed N.HAS_SUMMARIES N.tree self.new.printer.commands) }
     {
         if self.trials.is_empty() {
@@ -199,6 +222,11 @@ impl<N: Walk> Run<N> {
             → RunsToEnd (W.document_errors out.new) a (point_of N.tree self.new (seen_by W.Render out.new)) result }
         ensures spends { (a : Point) → RunReaches a (station_of N.tree self.old (seen_by W.Render out.old)) → Plain a.printer
             → Spends (rule_of N.HAS_SUMMARIES (2 ^ 64 - 1)) (left_of N.tree self.old) (none_left self.new.visits) }
+        ensures course { (ws : List Waiting) (refused : ℕ)
+            → WaitWith (held_of N.tree self.old) (station_of N.tree self.old (seen_by W.Render out.old)) ws
+            → EndCourse self.old.printer.options
+            (place_at (standing N.tree self.old.printer) self.old.visits.probes (around ws N.HAS_SUMMARIES refused))
+            self.new.visits.probes refused result }
     {
         match self.resume(out, u64::MAX)? {
             RunResult::Finished => Ok(()),

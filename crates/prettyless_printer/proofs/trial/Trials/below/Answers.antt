@@ -1,3 +1,4 @@
+use Rattle.prettyless_printer.proofs.RunCourses.{error_after}
 use Rattle.prettyless_printer.proofs.OpenCourses.{open_options}
 use Rattle.prettyless_printer.proofs.Courses.{come_same}
 use Rattle.std.proofs.Common.{◌∙◌, ap, arith}

@@ -1,0 +1,152 @@
+-- The course of a run outside of trials and in choices.
+use Rattle.std.proofs.Common.{◌≡◌, ℕ, ◌+◌, ◌≤◌, ◌<◌, Bool, true, List, [], ◌∷◌, ◌++◌, length, refl, ap, sym, ◌∙◌, arith, subst, inl}
+use Rattle.std.proofs.Common.{Result, Ok, Err, IsErr}
+use Rattle.std.specs.String.{string_bytes}
+use Rattle.std.proofs.lemmas.Str.{IsUtf8-string_bytes}
+use Rattle.prettyless_sink.specs.declared.error.RenderError.{RenderError}
+use Rattle.prettyless_sink.specs.declared.error.RenderError.TheVariants.{Document, Memory, Sink}
+use Rattle.prettyless_model.specs.declared.options.RenderOptions.{RenderOptions}
+use Rattle.prettyless_model.specs.declared.mode.Mode.TheVariants.{Break}
+use Rattle.prettyless_model.specs.Tree.{Tree}
+use Rattle.prettyless_model.specs.Layout.{State, flushed, some_pending}
+use Rattle.prettyless_probe.specs.Stack.{Task, make_task, tasks}
+use Rattle.prettyless_printer.specs.declared.answer.Choice.{Choice}
+use Rattle.prettyless_printer.specs.declared.answer.RunResult.{RunResult}
+use Rattle.prettyless_printer.specs.declared.answer.RunResult.TheVariants as run_result
+use Rattle.prettyless_printer.specs.declared.run.Run.{Run}
+use Rattle.prettyless_printer.specs.Points.{Point, Seen, Standing, buffer_seen, point_at, point_of, standing, state_at, trial_point}
+use Rattle.prettyless_printer.specs.Trials.{make_trial}
+use Rattle.prettyless_printer.specs.Open.{BeginsTrial, Held, Open, Opens, held_of}
+use Rattle.prettyless_printer.specs.Runs.{InChoice, Station, station_at, station_of}
+use Rattle.prettyless_printer.specs.Course.{Around, Comes, FlushEnd, NextFails, Place, Waiting, place}
+use Rattle.prettyless_printer.specs.CourseOf.{ChoiceCourse, ComesAlone, ComesInChoice, ComesInTrials, ComesToChoice, ComesToStation}
+use Rattle.prettyless_printer.specs.CourseOf.{CommandsCourse, EndCourse, EndCourseOrStop, ErrorCourse, FailsIn, IsDone, StopsInPart}
+use Rattle.prettyless_printer.specs.CourseOf.{StopsWhere, TurnCourse, WaitWith, WaitsInChoice, around, choice_waits, place_at}
+use Rattle.prettyless_printer.proofs.Chains.{open_begins}
+use Rattle.prettyless_printer.proofs.Courses.{come_by, come_same, come_then, stops_after, stops_in_part_after}
+use Rattle.prettyless_printer.proofs.OpenCourses.{tried_follows}
+
+-- ---- Errors, after what came before
+
+pub error_after : {E : Type 0} {o : RenderOptions} {a b : Place} (probes refused : ℕ) (e : RenderError E) → Comes o a b
+    → ErrorCourse o b probes refused e → ErrorCourse o a probes refused e
+error_after probes refused (Document e) h k = stops_after h k
+error_after probes refused (Sink e) h k = stops_after h k
+error_after probes refused (Memory e) h k = stops_in_part_after h k
+
+-- a turn ended in an error
+pub turn_error : {N E : Type 0} (f : N → Tree) (o : RenderOptions) (a : Place) (u : Around) (q : Standing) (k : ℕ) (e : RenderError E)
+    → TurnCourse {E = E} f o a u q k (Err e) → ErrorCourse o a k u.refused e
+turn_error f o a u q k (Document e) h = absurd h
+turn_error f o a u q k (Sink e) h = h
+turn_error f o a u q k (Memory e) h = h
+
+-- a node failed
+pub fails_alone : {o : RenderOptions} {a : Place} {u : Around} {k refused : ℕ} → StopsWhere (FailsIn o u) o a k refused
+    → StopsWhere (NextFails o) o a k refused
+fails_alone h = record { at = h.at; comes = h.comes; there = h.there.0; read = h.read; refusals = h.refusals }
+
+-- ---- Choices
+
+-- the trials of a choice are still open
+pub in_choice : {o : RenderOptions} {b : Place} {has : Bool} {refused i : ℕ} {x y : Tree} {a : Point} {w : Station} (z : Station) (h : InChoice i x y a w)
+    → z.point.sink ≡ a.sink
+    → ComesInTrials o b has refused (make_trial (point_at a.printer h.before a.visits) i x) y z.held
+    (point_at z.point.printer z.buffer z.point.visits) → ComesInChoice o b has refused i x y a z
+in_choice z h same k = record {
+  choice = record { before = h.before; empty = h.empty; trials = k.trials; sink = same };
+  comes = k.comes;
+}
+
+-- the trial of a choice is opened, and no other one is open
+pub choice_begins : {N : Type 0} {f : N → Tree} {o : RenderOptions} {b : Place} {has : Bool} {refused i : ℕ} {x y : Tree} (s : Seen)
+    (r q : Run N) → held_of f r ≡ [] → string_bytes r.buffer.text ≡ [] → q ≡ record r { printer = q.printer; trials = q.trials }
+    → Opens f i y (standing f r.printer) (buffer_seen r.buffer) (held_of f r) (held_of f q)
+    → BeginsTrial i x (standing f r.printer) (standing f q.printer)
+    → ComesToChoice o b (around [] has refused) i x y (standing f r.printer) r.visits.probes
+    → ComesInChoice o b has refused i x y (point_of f r s) (station_of f q s)
+unfolding open_begins
+choice_begins {N} {f} {o} {b} {has} {refused} {i} {x} {y} s r q none empty others opens begun waits =
+    let one : Held = record { mark = opens.mark; indent = i; second = y } in
+    let buffer : Seen = buffer_seen r.buffer in
+    let start : Point = trial_point f r in
+    let alone : held_of f q ≡ one ∷ [] = opens.more ∙ ap (λ (u : List Held). u ++ one ∷ []) none in
+    subst (λ (z : Run N). ComesInChoice o b has refused i x y (point_of f r s) (station_of f z s)) (sym others)
+    (subst (λ (us : List Held). ComesInChoice o b has refused i x y (point_of f r s)
+    (station_at (standing f q.printer) s r.visits us buffer)) (sym alone)
+    (record {
+      choice = record {
+        before = buffer;
+        empty = empty;
+        trials = open_begins y (record { marks = opens.marks; is_known = refl; text = IsUtf8-string_bytes r.buffer.text }) begun;
+        sink = refl;
+      };
+      comes = tried_follows start waits begun;
+    }))
+
+-- what came before a choice
+pub choice_after : {E : Type 0} {o : RenderOptions} {b c : Place} (has : Bool) (refused i : ℕ) (x y : Tree) (a : Point) (z : Station)
+    (r : Result RunResult (RenderError E)) → Comes o b c → ChoiceCourse o c has refused i x y a z r
+    → ChoiceCourse o b has refused i x y a z r
+choice_after has refused i x y a z (Ok run_result.Finished) h k = come_then h k
+choice_after has refused i x y a z (Ok run_result.Shift) h k = record { choice = k.choice; comes = come_then h k.comes }
+choice_after has refused i x y a z (Err e) h k = error_after z.point.visits.probes refused e h k
+
+-- ---- Stations
+
+pub station_alone : {o : RenderOptions} {b : Place} {has : Bool} {refused : ℕ} (z : Station) → z.held ≡ [] → ComesAlone o b has refused z
+    → ComesToStation o b has refused z
+station_alone z none h =
+    record { waiting = []; are = subst (λ (us : List Held). WaitWith us z []) (sym none) refl; comes = h }
+
+wait_in_choice : (us : List Held) {z : Station} {ws : List Waiting} → 0 < length us → WaitsInChoice z ws → WaitWith us z ws
+wait_in_choice [] some h = absurd (omega (arith, some))
+wait_in_choice (u ∷ us) some h = h
+
+pub waits_in_choice : (us : List Held) (z : Station) (ws : List Waiting) → 0 < length us → WaitWith us z ws → WaitsInChoice z ws
+waits_in_choice [] z ws some h = absurd (omega (arith, some))
+waits_in_choice (u ∷ us) z ws some h = h
+
+open_some : (s : _) (y : Tree) (us : List Held) (b : Point) → Open s y us b → 0 < length us
+open_some s y [] b h = absurd h
+open_some s y (u ∷ us) b h = omega arith
+
+pub station_in_choice : {o : RenderOptions} {b : Place} {has : Bool} {refused i : ℕ} {x y : Tree} {a : Point} (z : Station)
+    → ComesInChoice o b has refused i x y a z → ComesToStation o b has refused z
+station_in_choice {i = i} {x} {y} {a} z h = record {
+  waiting = choice_waits i x y a z h.choice;
+  are = wait_in_choice z.held (open_some _ y z.held (point_at z.point.printer z.buffer z.point.visits) h.choice.trials)
+      (record { indent = i; first = x; second = y; start = a; choice = h.choice; are = refl });
+  comes = h.comes;
+}
+
+-- ---- To the end
+
+pub end_after : {E : Type 0} {o : RenderOptions} {b c : Place} (has : Bool) (refused : ℕ) (z : Station) (r : Result RunResult (RenderError E))
+    → Comes o b c → EndCourseOrStop o c has refused z r → EndCourseOrStop o b has refused z r
+end_after has refused z (Ok run_result.Finished) h k = stops_after h k
+end_after has refused z (Ok run_result.Shift) h k = record { waiting = k.waiting; are = k.are; comes = come_then h k.comes }
+end_after has refused z (Err e) h k = error_after z.point.visits.probes refused e h k
+
+-- nothing is left
+pub done_here : {o : RenderOptions} {b : Place} (p : Standing) (k : ℕ) (has : Bool) (refused : ℕ)
+    → Comes o b (place_at p k (around [] has refused)) → p.tasks ≡ [] → (state_at p).pending ≡ []
+    → StopsWhere IsDone o b k refused
+done_here p k has refused h tasks pending = record {
+  at = place_at p k (around [] has refused);
+  comes = h;
+  there = record { tasks = tasks; pending = pending; alone = refl };
+  read = refl;
+  refusals = refl;
+}
+
+-- what is pending comes next
+pub flush_comes : {o : RenderOptions} (p q : Standing) (k : ℕ) (has : Bool) (refused : ℕ) → p.options ≡ o → p.tasks ≡ []
+    → some_pending (state_at p).pending ≡ true → q.tasks ≡ tasks 0 Break (state_at p).pending → state_at q ≡ flushed p.options (state_at p)
+    → Comes o (place_at p k (around [] has refused)) (place_at q k (around [] has refused))
+flush_comes {o} p q k has refused same none some stack state = come_by FlushEnd (record {
+  alone = refl;
+  ended = none;
+  some = some;
+  goes = λ j. place (stack j) ((state ∙ ap (λ (z : RenderOptions). flushed z (state_at p)) same) j) k (around [] has refused);
+})
