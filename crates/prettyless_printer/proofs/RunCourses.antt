@@ -20,11 +20,20 @@ use Rattle.prettyless_printer.specs.Open.{BeginsTrial, Held, Open, Opens, held_o
 use Rattle.prettyless_printer.specs.Runs.{InChoice, Station, station_at, station_of}
 use Rattle.prettyless_printer.specs.Course.{Around, Comes, FlushEnd, NextFails, Place, Waiting, place}
 use Rattle.prettyless_printer.specs.CourseOf.{ChoiceCourse, ComesAlone, ComesInChoice, ComesInTrials, ComesToChoice, ComesToStation}
-use Rattle.prettyless_printer.specs.CourseOf.{CommandsCourse, EndCourse, EndCourseOrStop, ErrorCourse, FailsIn, IsDone, StopsInPart}
-use Rattle.prettyless_printer.specs.CourseOf.{StopsWhere, TurnCourse, WaitWith, WaitsInChoice, around, choice_waits, place_at}
+use Rattle.prettyless_printer.specs.CourseOf.{CommandsCourse, EndCourse, EndCourseOrStop, ErrorCourse, FailsIn, IsDone, NoneFails, StopsInPart}
+use Rattle.prettyless_printer.specs.CourseOf.{GoesOn, StopsWhere, TurnCourse, WaitWith, WaitsInChoice, around, choice_waits, place_at}
+use Rattle.prettyless_step.specs.Printing.{tasks_of}
+use Rattle.prettyless_step.specs.declared.printer.Printer.{Printer}
+use Rattle.prettyless_step.specs.declared.queue.Queue.{Queue}
+use Rattle.prettyless_printer.specs.declared.answer.TurnResult.{TurnResult}
+use Rattle.prettyless_printer.proofs.Forgetting.{PendingSame, pending_same}
 use Rattle.prettyless_printer.proofs.Chains.{open_begins}
-use Rattle.prettyless_printer.proofs.Courses.{come_by, come_same, come_then, stops_after, stops_in_part_after}
+use Rattle.prettyless_printer.proofs.Courses.{come_by, come_then, refused_here, stops_after, stops_here, stops_in_part_after}
 use Rattle.prettyless_printer.proofs.OpenCourses.{tried_follows}
+
+-- under options that are the same
+pub comes_at : {o o' : RenderOptions} {a b : Place} → o' ≡ o → Comes o' a b → Comes o a b
+comes_at {a = a} {b = b} same h = subst (λ (z : RenderOptions). Comes z a b) same h
 
 -- ---- Errors, after what came before
 
@@ -150,3 +159,48 @@ flush_comes {o} p q k has refused same none some stack state = come_by FlushEnd 
   some = some;
   goes = λ j. place (stack j) ((state ∙ ap (λ (z : RenderOptions). flushed z (state_at p)) same) j) k (around [] has refused);
 })
+
+-- it ended in an error, and no document has failed
+pub flush_error : {A E : Type 0} {o : RenderOptions} {a b : Place} (e : RenderError E) → NoneFails {A = A} (Err e) → Comes o a b
+    → ErrorCourse o a b.probes b.around.refused e
+flush_error (Document e) none h = absurd none
+flush_error (Sink e) none h = stops_here h
+flush_error (Memory e) none h = refused_here h
+
+-- a run stops at a station, under options that are the same
+pub station_after : {o o' : RenderOptions} {a b : Place} {has : Bool} {refused : ℕ} (z : Station) → o' ≡ o → Comes o a b
+    → ComesToStation o' b has refused z → ComesToStation o a has refused z
+station_after z same h k = record { waiting = k.waiting; are = k.are; comes = come_then h (comes_at same k.comes) }
+
+-- ---- Turns outside of trials
+
+-- a turn of a run, under the options that it began with
+pub took_turn : {N E : Type 0} (f : N → Tree) {o : RenderOptions} (has : Bool) (refused : ℕ) (p q : Printer N) (k n : ℕ)
+    (r : Result (TurnResult N) (RenderError E)) → p.options ≡ o → ((u : Around) → u.has ≡ has
+    → GoesOn u (tasks_of f p) (state_at (standing f p)) → TurnCourse f p.options (place_at (standing f p) k u) u (standing f q) n r)
+    → TurnCourse f o (place_at (standing f p) k (around [] has refused)) (around [] has refused) (standing f q) n r
+took_turn f has refused p q k n r same course =
+    let u = around [] has refused in
+    subst (λ (z : RenderOptions). TurnCourse f z (place_at (standing f p) k u) u (standing f q) n r) same (course u refl (tt, tt))
+
+-- a choice that comes next, by what came before and under options that are the same
+pub waits_after : {o o' : RenderOptions} {a b : Place} {u : Around} {i : ℕ} {x y : Tree} {q : Standing} {k : ℕ} → o' ≡ o → Comes o a b
+    → ComesToChoice o b u i x y q k → ComesToChoice o' a u i x y q k
+waits_after {a = a} {u = u} {i} {x} {y} {q} {k} same h waits =
+    subst (λ (z : RenderOptions). ComesToChoice z a u i x y q k) (sym same)
+    (record { task = waits.task; comes = come_then h waits.comes; chooses = waits.chooses })
+
+pub in_choice_at : {o o' : RenderOptions} {b : Place} {has : Bool} {refused i : ℕ} {x y : Tree} {a : Point} {z : Station} → o' ≡ o
+    → ComesInChoice o' b has refused i x y a z → ComesInChoice o b has refused i x y a z
+in_choice_at same h = record { choice = h.choice; comes = comes_at same h.comes }
+
+pub error_at : {E : Type 0} {o o' : RenderOptions} {b : Place} (probes refused : ℕ) (e : RenderError E) → o' ≡ o
+    → ErrorCourse o' b probes refused e → ErrorCourse o b probes refused e
+error_at {b = b} probes refused e same h = subst (λ (z : RenderOptions). ErrorCourse z b probes refused e) same h
+
+-- line suffixes that were laid are forgotten
+pub course_forgets : {N : Type 0} (f : N → Tree) {o : RenderOptions} {a : Place} {k : ℕ} {u : Around} (p : Printer N) (q : Queue N)
+    → PendingSame p.queue q → Comes o a (place_at (standing f p) k u) → Comes o a (place_at (standing f (record p { queue = q })) k u)
+course_forgets f {o} {a} {k} {u} p q same h =
+    subst (λ (z : Place). Comes o a z)
+    (λ j. place (tasks_of f p) (record { column = p.column; pending = sym (pending_same f p.queue q same) j; within = p.within }) k u) h

@@ -164,6 +164,13 @@ ErrorCourse o b probes refused (Document e) = StopsWhere (NextFails o) o b probe
 ErrorCourse o b probes refused (Sink e) = StopsWhere Anywhere o b probes refused
 ErrorCourse o b probes refused (Memory e) = StopsInPart o b probes refused
 
+-- no document has failed
+abbrev pub NoneFails : {A E : Type 0} → Result A (RenderError E) → Type 0
+NoneFails (Ok x) = Unit {0}
+NoneFails (Err (Document e)) = ⊥
+NoneFails (Err (Sink e)) = Unit {0}
+NoneFails (Err (Memory e)) = Unit {0}
+
 -- a run has come from a place to a station outside of trials
 abbrev pub ComesAlone : RenderOptions → Place → Bool → ℕ → Station → Type 0
 ComesAlone o b has refused z = Comes o b (place_at z.point.printer z.point.visits.probes (around [] has refused))

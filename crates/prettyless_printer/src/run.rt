@@ -8,8 +8,8 @@ ghost use Rattle.prettyless_printer.specs.Points.{Point, point_of, seen_by, stan
 ghost use Rattle.prettyless_printer.specs.Renders.{FlushesEnd, RunsToEnd};
 ghost use Rattle.prettyless_printer.specs.Open.{held_of};
 ghost use Rattle.prettyless_printer.specs.Course.{Place, Waiting};
-ghost use Rattle.prettyless_printer.specs.CourseOf.{ChoiceCourse, ComesToChoice, CommandsCourse, EndCourse, EndCourseOrStop, WaitWith};
-ghost use Rattle.prettyless_printer.specs.CourseOf.{around, choice_waits, place_at};
+ghost use Rattle.prettyless_printer.specs.CourseOf.{ChoiceCourse, ComesToChoice, CommandsCourse, EndCourse, EndCourseOrStop, NoneFails};
+ghost use Rattle.prettyless_printer.specs.CourseOf.{WaitWith, around, choice_waits, place_at};
 ghost use Rattle.prettyless_printer.specs.Visits.{Plain};
 ghost use Rattle.prettyless_printer.specs.Spending.{IsPlainChoice, Spends, SpendsAs, left_alone, left_choice, left_of, none_left, rule_of};
 ghost use Rattle.prettyless_printer.specs.Runs.{RunReaches, InChoice, RunsToEndOrStops, ChoosesOrStops, RunsCommandsOrStops, station_of};
@@ -51,6 +51,7 @@ fn flush_end<N: Walk, W: Render>(
     requires summed { IsSummed N.HAS_SUMMARIES N.tree printer.old.commands }
     ensures flushes { FlushesEnd (standing N.tree printer.old) (standing N.tree printer.new)
         (seen_by W.Render out.old) (seen_by W.Render out.new) result }
+    ensures none { NoneFails result }
     ensures summed { OnOk result (IsSummed N.HAS_SUMMARIES N.tree printer.new.commands) }
 {
     match take_pending(printer, 0, Mode::Break) {

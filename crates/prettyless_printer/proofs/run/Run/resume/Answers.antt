@@ -113,3 +113,56 @@ returns-in-Finished-clause-spends g c = λ a h plain.
     (seconds_none f c.resume_choice.new.self settled.0
     (c.in_ok-resume_choice.ensures.spends came.indent came.first came.second came.at came.choice (came_plain came plain)))
     (c.run_to_end-in-Finished.ensures.spends (continues.at_most plain).0)
+
+-- ---- Where it has come in its course
+
+pub returns-then-is_empty-clause-course : goal.returns-then-is_empty-clause-course
+returns-then-is_empty-clause-course g c = λ ws refused are.
+    let f = g.N.Walk.tree in
+    let old = c.args.self.now in
+    let sink = seen_by g.W.Render in
+    let none = ap (all_held f) (nil_from_length old.trials.open.items (c.is_empty.ensures.none c.if-is_empty.true)) in
+    let alone = waits_alone (held_of f old) (station_of f old (sink c.args.out.now)) ws none are in
+    end_waiting g.N.Walk.HAS_SUMMARIES refused (station_of f c.run_to_end.new.self (sink c.run_to_end.new.out)) c.run_to_end.result alone
+    (c.run_to_end.ensures.course refused)
+
+pub returns-in_err-resume_choice-clause-course : goal.returns-in_err-resume_choice-clause-course
+returns-in_err-resume_choice-clause-course g c =
+    let residual = err_from_is_err_and c.from_residual.result c.from_residual.ensures.1 in
+    rw (residual.1, residual.2)
+    λ ws refused are.
+    let f = g.N.Walk.tree in
+    let old = c.args.self.now in
+    let sink = seen_by g.W.Render in
+    let some = some_open f old.trials.open.items (c.is_empty.ensures.some c.if-is_empty.false) in
+    let came = waits_in_choice (held_of f old) (station_of f old (sink c.args.out.now)) ws some are in
+    error_waiting g.N.Walk.HAS_SUMMARIES c.resume_choice.new.self.visits.probes refused c.in_err-resume_choice.field-0.0 came.are
+    (c.in_err-resume_choice.ensures.course came.indent came.first came.second came.start came.choice refused)
+
+pub returns-in-Finished-clause-course : goal.returns-in-Finished-clause-course
+returns-in-Finished-clause-course g c = λ ws refused are.
+    let f = g.N.Walk.tree in
+    let old = c.args.self.now in
+    let sink = seen_by g.W.Render in
+    let some = some_open f old.trials.open.items (c.is_empty.ensures.some c.if-is_empty.false) in
+    let came = waits_in_choice (held_of f old) (station_of f old (sink c.args.out.now)) ws some are in
+    let reached = came_in_choice c.requires.comes.0 (station_of f old (sink c.args.out.now)) some c.requires.comes.1 in
+    let z = station_of f c.run_to_end-in-Finished.new.self (sink c.run_to_end-in-Finished.new.out) in
+    let chose = (rw c.in-Finished.is at c.in_ok-resume_choice.ensures.course) came.indent came.first came.second came.start came.choice refused in
+    let settled = (rw c.in-Finished.is at c.in_ok-resume_choice.ensures.settles) reached.indent reached.first reached.second reached.at
+    reached.choice in
+    end_then g.N.Walk.HAS_SUMMARIES refused z c.run_to_end-in-Finished.result
+    (resumed_options {z = station_of f old (sink c.args.out.now)} reached settled.1)
+    (comes_waiting came.are chose)
+    (c.run_to_end-in-Finished.ensures.course refused)
+
+pub returns-in-Shift-clause-course : goal.returns-in-Shift-clause-course
+returns-in-Shift-clause-course g c = λ ws refused are.
+    let f = g.N.Walk.tree in
+    let old = c.args.self.now in
+    let sink = seen_by g.W.Render in
+    let some = some_open f old.trials.open.items (c.is_empty.ensures.some c.if-is_empty.false) in
+    let came = waits_in_choice (held_of f old) (station_of f old (sink c.args.out.now)) ws some are in
+    station_in_choice (station_of f c.resume_choice.new.self (sink c.resume_choice.new.out))
+    (choice_waiting came.are
+    ((rw c.in-Shift.is at c.in_ok-resume_choice.ensures.course) came.indent came.first came.second came.start came.choice refused))

@@ -1,8 +1,13 @@
-use Rattle.std.proofs.Common.{◌<◌, ◌≤◌, length, ap, arith}
+use Rattle.std.proofs.Common.{◌<◌, ◌≤◌, ◌∙◌, [], Err, Ok, length, ap, arith}
 use Rattle.std.proofs.lemmas.Result.{err_from_is_err_and}
 use Rattle.prettyless_step.specs.Printing.{tasks_of}
 use Rattle.prettyless_printer.specs.declared.answer.RunResult.TheVariants as run_result
-use Rattle.prettyless_printer.specs.Points.{point_of, seen_by}
+use Rattle.prettyless_printer.specs.declared.answer.TurnResult.TheVariants as turn_result
+use Rattle.prettyless_printer.specs.CourseOf.{around, place_at}
+use Rattle.prettyless_printer.proofs.Courses.{come_same, come_then, stops_after}
+use Rattle.prettyless_printer.proofs.RunCourses.{comes_at, course_forgets, error_after, error_at, fails_alone, in_choice_at, station_alone}
+use Rattle.prettyless_printer.proofs.RunCourses.{station_in_choice, took_turn, turn_error, waits_after}
+use Rattle.prettyless_printer.specs.Points.{point_of, seen_by, standing}
 use Rattle.prettyless_printer.proofs.PathSteps.{run_begins, run_ends, run_error, goes_on, stops, path_to_choice, breaks_off}
 use Rattle.prettyless_printer.proofs.PathSteps.{fails_there}
 use Rattle.prettyless_printer.proofs.PathSteps.{error_anyhow}
@@ -22,6 +27,7 @@ work-init g c = record {
   path = run_begins (point_of g.N.Walk.tree c.args.self.now (seen_by g.W.Render c.args.out.now));
   none = c.requires.none;
   spends = λ plain. spends_same _ _;
+  course = λ refused. come_same _ _;
   summed = c.requires.summed;
 }
 
@@ -59,6 +65,11 @@ work-preserved-in-Complete g c =
           spends_forgets f c.turn.new.printer c.forget_laid.new.self visits c.forget_laid.ensures.forgotten
           (path_spends c.work.invariant.path plain (c.work.invariant.spends plain) (rw c.in-Complete.is at c.in_ok-turn.ensures.spends));
       none = c.work.invariant.none;
+      course = λ refused. course_forgets f c.turn.new.printer c.forget_laid.new.self c.forget_laid.ensures.pending
+          (come_then (c.work.invariant.course refused)
+          (took_turn f g.N.Walk.HAS_SUMMARIES refused c.work.self.printer c.turn.new.printer c.work.self.visits.probes
+          c.turn.new.visits.probes (Ok turn_result.Complete)
+          c.work.invariant.path.options (rw c.in-Complete.is at c.in_ok-turn.ensures.course)));
       summed = c.in_ok-turn.ensures.summed;
     }
 
@@ -81,6 +92,13 @@ work-preserved g c =
           (path_spends c.work.invariant.path plain (c.work.invariant.spends plain) (rw c.in-Choice.is at c.in_ok-turn.ensures.spends))
           c.in_ok-choose-in-Choice.ensures.spends));
       none = none_open f q.trials.open.items settled.0;
+      course = λ refused.
+          let same = turned.options ∙ c.work.invariant.path.options in
+          let waits = waits_after same (c.work.invariant.course refused)
+          (took_turn f g.N.Walk.HAS_SUMMARIES refused c.work.self.printer c.turn.new.printer c.work.self.visits.probes c.turn.new.visits.probes
+          (Ok (turn_result.Choice c.in-Choice.choice)) c.work.invariant.path.options (rw c.in-Choice.is at c.in_ok-turn.ensures.course)) in
+          course_forgets f q.printer forgotten.new.self forgotten.ensures.pending
+          (comes_at same ((rw c.in-Finished.is at c.in_ok-choose-in-Choice.ensures.course) _ refused waits));
       summed = c.in_ok-choose-in-Choice.ensures.summed;
     }
 
@@ -196,3 +214,63 @@ returns-in-Shift-2-clause-spends g c = λ plain.
 pub returns-clause-spends : goal.returns-clause-spends
 returns-clause-spends g c = λ plain.
     none_seconds g.N.Walk.tree c.work.self (ap (all_held g.N.Walk.tree) c.work.invariant.none) (c.work.invariant.spends plain)
+
+-- ---- Where it has come in its course
+
+pub returns-in-Shift-clause-course : goal.returns-in-Shift-clause-course
+returns-in-Shift-clause-course g c = λ refused.
+    let f = g.N.Walk.tree in
+    let next = record c.work.self { printer = c.turn.new.printer; visits = c.turn.new.visits } in
+    station_alone (station_of f next (seen_by g.W.Render c.turn.new.out)) (ap (all_held f) c.work.invariant.none)
+    (come_then (c.work.invariant.course refused)
+    (took_turn f g.N.Walk.HAS_SUMMARIES refused c.work.self.printer c.turn.new.printer c.work.self.visits.probes c.turn.new.visits.probes
+    (Ok turn_result.Shift) c.work.invariant.path.options (rw c.in-Shift.is at c.in_ok-turn.ensures.course)))
+
+pub returns-in-Failed-clause-course : goal.returns-in-Failed-clause-course
+returns-in-Failed-clause-course g c = λ refused.
+    let f = g.N.Walk.tree in
+    stops_after (c.work.invariant.course refused) (fails_alone
+    (took_turn f g.N.Walk.HAS_SUMMARIES refused c.work.self.printer c.turn.new.printer c.work.self.visits.probes c.turn.new.visits.probes
+    (Ok turn_result.Failed) c.work.invariant.path.options (rw c.in-Failed.is at c.in_ok-turn.ensures.course)))
+
+pub returns-in_err-turn-clause-course : goal.returns-in_err-turn-clause-course
+returns-in_err-turn-clause-course g c =
+    let residual = err_from_is_err_and c.from_residual.result c.from_residual.ensures.1 in
+    rw (residual.1, residual.2)
+    λ refused.
+    let f = g.N.Walk.tree in
+    let has = g.N.Walk.HAS_SUMMARIES in
+    let e = c.in_err-turn.field-0.0 in
+    let start = place_at (standing f c.work.self.printer) c.work.self.visits.probes (around [] has refused) in
+    error_after c.turn.new.visits.probes refused e (c.work.invariant.course refused)
+    (turn_error f c.args.self.now.printer.options start (around [] has refused) (standing f c.turn.new.printer) c.turn.new.visits.probes e
+    (took_turn f has refused c.work.self.printer c.turn.new.printer c.work.self.visits.probes c.turn.new.visits.probes
+    (Err e) c.work.invariant.path.options c.in_err-turn.ensures.course))
+
+pub returns-in_err-choose-in-Choice-clause-course : goal.returns-in_err-choose-in-Choice-clause-course
+returns-in_err-choose-in-Choice-clause-course g c =
+    let residual = err_from_is_err_and c.from_residual-in_err-choose-in-Choice.result c.from_residual-in_err-choose-in-Choice.ensures.1 in
+    rw (residual.1, residual.2)
+    λ refused.
+    let f = g.N.Walk.tree in
+    let e = c.in_err-choose-in-Choice.field-0.0 in
+    let advanced = rw c.in-Choice.is at c.in_ok-turn.ensures.advances in
+    let same = advanced.options ∙ c.work.invariant.path.options in
+    let waits = waits_after same (c.work.invariant.course refused)
+    (took_turn f g.N.Walk.HAS_SUMMARIES refused c.work.self.printer c.turn.new.printer c.work.self.visits.probes c.turn.new.visits.probes
+    (Ok (turn_result.Choice c.in-Choice.choice)) c.work.invariant.path.options (rw c.in-Choice.is at c.in_ok-turn.ensures.course)) in
+    error_at c.choose.new.self.visits.probes refused e same (c.in_err-choose-in-Choice.ensures.course _ refused waits)
+
+pub returns-clause-course : goal.returns-clause-course
+returns-clause-course g c = c.work.invariant.course
+
+pub returns-in-Shift-2-clause-course : goal.returns-in-Shift-2-clause-course
+returns-in-Shift-2-clause-course g c = λ refused.
+    let f = g.N.Walk.tree in
+    let advanced = rw c.in-Choice.is at c.in_ok-turn.ensures.advances in
+    let same = advanced.options ∙ c.work.invariant.path.options in
+    let waits = waits_after same (c.work.invariant.course refused)
+    (took_turn f g.N.Walk.HAS_SUMMARIES refused c.work.self.printer c.turn.new.printer c.work.self.visits.probes c.turn.new.visits.probes
+    (Ok (turn_result.Choice c.in-Choice.choice)) c.work.invariant.path.options (rw c.in-Choice.is at c.in_ok-turn.ensures.course)) in
+    station_in_choice (station_of f c.choose.new.self (seen_by g.W.Render c.choose.new.out))
+    (in_choice_at same ((rw c.in-Shift-2.is at c.in_ok-choose-in-Choice.ensures.course) _ refused waits))

@@ -1,10 +1,13 @@
-use Rattle.std.proofs.Common.{◌∙◌, sym}
+use Rattle.std.proofs.Common.{◌∙◌, arith, sym}
 use Rattle.std.proofs.lemmas.Result.{err_from_is_err_and}
 use Rattle.prettyless_step.proofs.Queues.{length_some, length_none}
 use Rattle.prettyless_printer.specs.Points.{point_of, seen_by, standing, state_at}
 use Rattle.prettyless_printer.specs.Runs.{station_of}
 use Rattle.prettyless_printer.specs.Spending.{left_of}
 use Rattle.prettyless_printer.specs.declared.answer.RunResult.TheVariants as run_result
+use Rattle.std.proofs.lemmas.List.{nil_from_length}
+use Rattle.prettyless_printer.proofs.Courses.{come_same, come_then}
+use Rattle.prettyless_printer.proofs.RunCourses.{comes_at, done_here, error_after, error_at, flush_comes, flush_error, station_after}
 use Rattle.prettyless_printer.proofs.Standings.{pending_stands}
 use Rattle.prettyless_printer.proofs.Shifts.{continues_same, continues_then, continues_to_end, none_open, stops_then, round_continues}
 use Rattle.prettyless_printer.proofs.Shifts.{round_work_falls, round_stopped, work_ends, work_stopped}
@@ -18,6 +21,7 @@ rounds-init g c = record {
   continues = continues_same (point_of g.N.Walk.tree c.args.self.now (seen_by g.W.Render c.args.out.now));
   none = c.requires.none;
   spends = λ plain. spends_same _ _;
+  course = λ refused. come_same _ _;
   summed = c.requires.summed;
 }
 
@@ -74,6 +78,15 @@ rounds-preserved g c =
       none = none_open f c.run_commands.new.self.trials.open.items (rw c.in-Finished.is at c.in_ok-run_commands.ensures.works).0;
       spends = λ plain. absurd (nothing_pending fails run_result.Finished c.rounds.invariant.continues plain
           ((rw c.in-Finished.is at c.in_ok-run_commands.ensures.works).1) some);
+      course = λ refused.
+          let before = c.rounds.invariant.continues.options in
+          let ran = (rw c.in-Finished.is at c.in_ok-run_commands.ensures.works).1 in
+          let flushed = c.in_ok-flush_end-in-Finished.ensures.flushes in
+          come_then (c.rounds.invariant.course refused)
+          (come_then (comes_at before ((rw c.in-Finished.is at c.in_ok-run_commands.ensures.course) refused))
+          (flush_comes (standing f p) (standing f c.flush_end.new.printer) c.run_commands.new.self.visits.probes g.N.Walk.HAS_SUMMARIES refused
+          (ran.options ∙ before) ran.done
+          (sym (pending_stands f p) ∙ sym c.is_pending.ensures ∙ c.if-not-is_pending.false) flushed.stack flushed.state));
       summed = c.in_ok-flush_end-in-Finished.ensures.summed;
     }
 
@@ -116,3 +129,44 @@ returns-in_err-flush_end-in-Finished-clause-spends g c = λ plain.
     (sym (pending_stands f p) ∙ sym c.is_pending.ensures ∙ c.if-not-is_pending.false) in
     absurd (nothing_pending fails run_result.Finished c.rounds.invariant.continues plain
     ((rw c.in-Finished.is at c.in_ok-run_commands.ensures.works).1) some)
+
+-- ---- Where it has come in its course
+
+pub returns-in_err-run_commands-clause-course : goal.returns-in_err-run_commands-clause-course
+returns-in_err-run_commands-clause-course g c =
+    let residual = err_from_is_err_and c.from_residual.result c.from_residual.ensures.1 in
+    rw (residual.1, residual.2)
+    λ refused.
+    let e = c.in_err-run_commands.field-0.0 in
+    let probes = c.run_commands.new.self.visits.probes in
+    error_after probes refused e (c.rounds.invariant.course refused)
+    (error_at probes refused e c.rounds.invariant.continues.options (c.in_err-run_commands.ensures.course refused))
+
+pub returns-in-Shift-clause-course : goal.returns-in-Shift-clause-course
+returns-in-Shift-clause-course g c = λ refused.
+    station_after (station_of g.N.Walk.tree c.run_commands.new.self (seen_by g.W.Render c.run_commands.new.out))
+    c.rounds.invariant.continues.options
+    (c.rounds.invariant.course refused) ((rw c.in-Shift.is at c.in_ok-run_commands.ensures.course) refused)
+
+pub returns-then-not-is_pending-clause-course : goal.returns-then-not-is_pending-clause-course
+returns-then-not-is_pending-clause-course g c = λ refused.
+    let f = g.N.Walk.tree in
+    let p = c.run_commands.new.self.printer in
+    let before = c.rounds.invariant.continues.options in
+    let ran = (rw c.in-Finished.is at c.in_ok-run_commands.ensures.works).1 in
+    let none = length_none (state_at (standing f p)).pending
+    (sym (pending_stands f p) ∙ sym c.is_pending.ensures ∙ c.if-not-is_pending.true) in
+    done_here (standing f p) c.run_commands.new.self.visits.probes g.N.Walk.HAS_SUMMARIES refused
+    (come_then (c.rounds.invariant.course refused)
+    (comes_at before ((rw c.in-Finished.is at c.in_ok-run_commands.ensures.course) refused)))
+    ran.done (nil_from_length (state_at (standing f p)).pending (omega (arith, none)))
+
+pub returns-in_err-flush_end-in-Finished-clause-course : goal.returns-in_err-flush_end-in-Finished-clause-course
+returns-in_err-flush_end-in-Finished-clause-course g c =
+    let residual = err_from_is_err_and c.from_residual-in_err-flush_end-in-Finished.result
+    c.from_residual-in_err-flush_end-in-Finished.ensures.1 in
+    rw (residual.1, residual.2)
+    λ refused.
+    flush_error c.in_err-flush_end-in-Finished.field-0.0 c.in_err-flush_end-in-Finished.ensures.none
+    (come_then (c.rounds.invariant.course refused)
+    (comes_at c.rounds.invariant.continues.options ((rw c.in-Finished.is at c.in_ok-run_commands.ensures.course) refused)))

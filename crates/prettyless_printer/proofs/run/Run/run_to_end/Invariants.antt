@@ -1,10 +1,12 @@
-use Rattle.std.proofs.Common.{◌≡◌, []}
+use Rattle.std.proofs.Common.{◌≡◌, [], ℕ}
 use Rattle.prettyless_step.specs.Printing.{tasks_of}
 use Rattle.prettyless_step.specs.Steps.{work}
 use Rattle.prettyless_probe.specs.Sums.{IsSummed}
 use Rattle.prettyless_printer.specs.Points.{point_of, seen_by, standing, state_at}
 use Rattle.prettyless_printer.specs.Visits.{Plain}
 use Rattle.prettyless_printer.specs.Spending.{Spends, left_alone, rule_of}
+use Rattle.prettyless_printer.specs.Course.{Comes}
+use Rattle.prettyless_printer.specs.CourseOf.{around, place_at}
 use Rattle.prettyless_printer.specs.Renders.{Continues}
 use Rattle.prettyless_printer.proofs.run.Run.run_to_end.Given as goal
 
@@ -17,6 +19,9 @@ invariant-rounds g l =
       none : l.self.trials.open.items ≡ [];
       spends : Plain (standing f l.fn.self.printer) →
           Spends (rule_of g.N.Walk.HAS_SUMMARIES l.limit) (left_alone f l.fn.self) (left_alone f l.self);
+      course : (refused : ℕ) → Comes l.fn.self.printer.options
+          (place_at (standing f l.fn.self.printer) l.fn.self.visits.probes (around [] g.N.Walk.HAS_SUMMARIES refused))
+          (place_at (standing f l.self.printer) l.self.visits.probes (around [] g.N.Walk.HAS_SUMMARIES refused));
       summed : IsSummed g.N.Walk.HAS_SUMMARIES f l.self.printer.commands;
     }
 
