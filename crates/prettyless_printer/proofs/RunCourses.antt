@@ -17,7 +17,8 @@ use Rattle.prettyless_printer.specs.declared.run.Run.{Run}
 use Rattle.prettyless_printer.specs.Points.{Point, Seen, Standing, buffer_seen, point_at, point_of, standing, state_at, trial_point}
 use Rattle.prettyless_printer.specs.Trials.{make_trial}
 use Rattle.prettyless_printer.specs.Open.{BeginsTrial, Held, Open, Opens, held_of}
-use Rattle.prettyless_printer.specs.Runs.{InChoice, Station, station_at, station_of}
+use Rattle.prettyless_printer.specs.Paths.{Chooses, run_of}
+use Rattle.prettyless_printer.specs.Runs.{InChoice, RunReachesChoice, Station, station_at, station_of}
 use Rattle.prettyless_printer.specs.Course.{Around, Comes, FlushEnd, NextFails, Place, Waiting, place}
 use Rattle.prettyless_printer.specs.CourseOf.{ChoiceCourse, ComesAlone, ComesInChoice, ComesInTrials, ComesToChoice, ComesToStation}
 use Rattle.prettyless_printer.specs.CourseOf.{CommandsCourse, EndCourse, EndCourseOrStop, ErrorCourse, FailsIn, IsDone, NoneFails, StopsInPart}
@@ -29,7 +30,7 @@ use Rattle.prettyless_printer.specs.declared.answer.TurnResult.{TurnResult}
 use Rattle.prettyless_printer.proofs.Forgetting.{PendingSame, pending_same}
 use Rattle.prettyless_printer.proofs.Chains.{open_begins}
 use Rattle.prettyless_printer.proofs.Courses.{come_by, come_then, refused_here, stops_after, stops_here, stops_in_part_after}
-use Rattle.prettyless_printer.proofs.OpenCourses.{tried_follows}
+use Rattle.prettyless_printer.proofs.OpenCourses.{open_options, tried_follows}
 
 -- under options that are the same
 pub comes_at : {o o' : RenderOptions} {a b : Place} → o' ≡ o → Comes o' a b → Comes o a b
@@ -161,25 +162,47 @@ flush_comes {o} p q k has refused same none some stack state = come_by FlushEnd 
 })
 
 -- it ended in an error, and no document has failed
-pub flush_error : {A E : Type 0} {o : RenderOptions} {a b : Place} (e : RenderError E) → NoneFails {A = A} (Err e) → Comes o a b
+pub flush_error : (A : Type 0) {E : Type 0} {o : RenderOptions} {a b : Place} (e : RenderError E) → NoneFails {A = A} (Err e) → Comes o a b
     → ErrorCourse o a b.probes b.around.refused e
-flush_error (Document e) none h = absurd none
-flush_error (Sink e) none h = stops_here h
-flush_error (Memory e) none h = refused_here h
+flush_error A (Document e) none h = absurd none
+flush_error A (Sink e) none h = stops_here h
+flush_error A (Memory e) none h = refused_here h
 
 -- a run stops at a station, under options that are the same
 pub station_after : {o o' : RenderOptions} {a b : Place} {has : Bool} {refused : ℕ} (z : Station) → o' ≡ o → Comes o a b
     → ComesToStation o' b has refused z → ComesToStation o a has refused z
 station_after z same h k = record { waiting = k.waiting; are = k.are; comes = come_then h (comes_at same k.comes) }
 
+-- under options that are the same, after what came before
+pub end_then : {E : Type 0} {o o' : RenderOptions} {b c : Place} (has : Bool) (refused : ℕ) (z : Station)
+    (r : Result RunResult (RenderError E)) → o' ≡ o → Comes o b c → EndCourseOrStop o' c has refused z r → EndCourseOrStop o b has refused z r
+end_then {c = c} has refused z r same h k =
+    end_after has refused z r h (subst (λ (o : RenderOptions). EndCourseOrStop o c has refused z r) same k)
+
+-- ---- Choices that were open
+
+-- outside of trials none waits
+pub waits_alone : (us : List Held) (z : Station) (ws : List Waiting) → us ≡ [] → WaitWith us z ws → ws ≡ []
+waits_alone us z ws none are = subst (λ (vs : List Held). WaitWith vs z ws) none are
+
+-- the options are those of before
+pub resumed_options : {A E : Type 0} {a b : Point} {x : A} (z : Station) (h : RunReachesChoice a z)
+    → Chooses {A = A} {E = E} h.indent h.first h.second h.at b (Ok x) → b.printer.options ≡ z.point.printer.options
+resumed_options z h chooses =
+    let i = h.indent in
+    let path = chooses.runs (run_of h.c) h.waiting in
+    path.options ∙ sym h.waiting.options
+    ∙ sym (open_options (make_trial (point_at h.at.printer h.choice.before h.at.visits) i h.first) h.second z.held
+    (point_at z.point.printer z.buffer z.point.visits) h.choice.trials)
+
 -- ---- Turns outside of trials
 
 -- a turn of a run, under the options that it began with
-pub took_turn : {N E : Type 0} (f : N → Tree) {o : RenderOptions} (has : Bool) (refused : ℕ) (p q : Printer N) (k n : ℕ)
+pub took_turn : {N : Type 0} (E : Type 0) (f : N → Tree) {o : RenderOptions} (has : Bool) (refused : ℕ) (p q : Printer N) (k n : ℕ)
     (r : Result (TurnResult N) (RenderError E)) → p.options ≡ o → ((u : Around) → u.has ≡ has
     → GoesOn u (tasks_of f p) (state_at (standing f p)) → TurnCourse f p.options (place_at (standing f p) k u) u (standing f q) n r)
     → TurnCourse f o (place_at (standing f p) k (around [] has refused)) (around [] has refused) (standing f q) n r
-took_turn f has refused p q k n r same course =
+took_turn E f has refused p q k n r same course =
     let u = around [] has refused in
     subst (λ (z : RenderOptions). TurnCourse f z (place_at (standing f p) k u) u (standing f q) n r) same (course u refl (tt, tt))
 
@@ -194,9 +217,9 @@ pub in_choice_at : {o o' : RenderOptions} {b : Place} {has : Bool} {refused i : 
     → ComesInChoice o' b has refused i x y a z → ComesInChoice o b has refused i x y a z
 in_choice_at same h = record { choice = h.choice; comes = comes_at same h.comes }
 
-pub error_at : {E : Type 0} {o o' : RenderOptions} {b : Place} (probes refused : ℕ) (e : RenderError E) → o' ≡ o
+pub error_at : {E : Type 0} {o o' : RenderOptions} (b : Place) (probes refused : ℕ) (e : RenderError E) → o' ≡ o
     → ErrorCourse o' b probes refused e → ErrorCourse o b probes refused e
-error_at {b = b} probes refused e same h = subst (λ (z : RenderOptions). ErrorCourse z b probes refused e) same h
+error_at b probes refused e same h = subst (λ (z : RenderOptions). ErrorCourse z b probes refused e) same h
 
 -- line suffixes that were laid are forgotten
 pub course_forgets : {N : Type 0} (f : N → Tree) {o : RenderOptions} {a : Place} {k : ℕ} {u : Around} (p : Printer N) (q : Queue N)

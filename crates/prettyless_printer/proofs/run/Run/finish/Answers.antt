@@ -24,3 +24,13 @@ pub unreachable-requires : goal.unreachable-requires
 unreachable-requires g c =
     let past = ((rw c.in-Shift.is at c.in_ok-resume.ensures.runs) c.requires.comes.0 c.requires.comes.1).past in
     omega (arith, past.0, past.1)
+
+-- where it has come in its course
+pub returns-clause-course : goal.returns-clause-course
+returns-clause-course g c = λ ws refused are. (rw c.in-Finished.is at c.in_ok-resume.ensures.course) ws refused are
+
+pub returns-in_err-resume-clause-course : goal.returns-in_err-resume-clause-course
+returns-in_err-resume-clause-course g c =
+    let residual = err_from_is_err_and c.from_residual.result c.from_residual.ensures.1 in
+    rw (residual.1, residual.2)
+    c.in_err-resume.ensures.course

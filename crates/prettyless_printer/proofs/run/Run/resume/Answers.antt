@@ -1,8 +1,11 @@
-use Rattle.std.proofs.Common.{ap}
+use Rattle.std.proofs.Common.{List, ap, subst, sym}
 use Rattle.std.proofs.lemmas.List.{nil_from_length}
 use Rattle.std.proofs.lemmas.Result.{err_from_is_err_and}
-use Rattle.prettyless_printer.specs.Points.{point_of, seen_by}
-use Rattle.prettyless_printer.specs.Open.{all_held}
+use Rattle.prettyless_printer.specs.Course.{Waiting}
+use Rattle.prettyless_printer.specs.CourseOf.{ComesAlone, ComesInChoice, EndCourseOrStop, ErrorCourse, around, place_at}
+use Rattle.prettyless_printer.proofs.RunCourses.{end_then, resumed_options, station_in_choice, waits_alone, waits_in_choice}
+use Rattle.prettyless_printer.specs.Points.{point_of, seen_by, standing}
+use Rattle.prettyless_printer.specs.Open.{all_held, held_of}
 use Rattle.prettyless_printer.specs.Runs.{station_of}
 use Rattle.prettyless_printer.specs.Spending.{left_of}
 use Rattle.prettyless_printer.proofs.Shifts.{came_alone, came_in_choice, choice_continues, choice_stopped, comes_in_choice, none_open}
@@ -123,8 +126,9 @@ returns-then-is_empty-clause-course g c = λ ws refused are.
     let sink = seen_by g.W.Render in
     let none = ap (all_held f) (nil_from_length old.trials.open.items (c.is_empty.ensures.none c.if-is_empty.true)) in
     let alone = waits_alone (held_of f old) (station_of f old (sink c.args.out.now)) ws none are in
-    end_waiting g.N.Walk.HAS_SUMMARIES refused (station_of f c.run_to_end.new.self (sink c.run_to_end.new.out)) c.run_to_end.result alone
-    (c.run_to_end.ensures.course refused)
+    subst (λ (v : List Waiting). EndCourseOrStop old.printer.options
+    (place_at (standing f old.printer) old.visits.probes (around v g.N.Walk.HAS_SUMMARIES refused)) g.N.Walk.HAS_SUMMARIES refused
+    (station_of f c.run_to_end.new.self (sink c.run_to_end.new.out)) c.run_to_end.result) (sym alone) (c.run_to_end.ensures.course refused)
 
 pub returns-in_err-resume_choice-clause-course : goal.returns-in_err-resume_choice-clause-course
 returns-in_err-resume_choice-clause-course g c =
@@ -136,7 +140,9 @@ returns-in_err-resume_choice-clause-course g c =
     let sink = seen_by g.W.Render in
     let some = some_open f old.trials.open.items (c.is_empty.ensures.some c.if-is_empty.false) in
     let came = waits_in_choice (held_of f old) (station_of f old (sink c.args.out.now)) ws some are in
-    error_waiting g.N.Walk.HAS_SUMMARIES c.resume_choice.new.self.visits.probes refused c.in_err-resume_choice.field-0.0 came.are
+    subst (λ (v : List Waiting). ErrorCourse old.printer.options
+    (place_at (standing f old.printer) old.visits.probes (around v g.N.Walk.HAS_SUMMARIES refused))
+    c.resume_choice.new.self.visits.probes refused c.in_err-resume_choice.field-0.0) (sym came.are)
     (c.in_err-resume_choice.ensures.course came.indent came.first came.second came.start came.choice refused)
 
 pub returns-in-Finished-clause-course : goal.returns-in-Finished-clause-course
@@ -152,8 +158,10 @@ returns-in-Finished-clause-course g c = λ ws refused are.
     let settled = (rw c.in-Finished.is at c.in_ok-resume_choice.ensures.settles) reached.indent reached.first reached.second reached.at
     reached.choice in
     end_then g.N.Walk.HAS_SUMMARIES refused z c.run_to_end-in-Finished.result
-    (resumed_options {z = station_of f old (sink c.args.out.now)} reached settled.1)
-    (comes_waiting came.are chose)
+    (resumed_options (station_of f old (sink c.args.out.now)) reached settled.1)
+    (subst (λ (v : List Waiting). ComesAlone old.printer.options
+    (place_at (standing f old.printer) old.visits.probes (around v g.N.Walk.HAS_SUMMARIES refused)) g.N.Walk.HAS_SUMMARIES refused
+    (station_of f c.resume_choice.new.self (sink c.resume_choice.new.out))) (sym came.are) chose)
     (c.run_to_end-in-Finished.ensures.course refused)
 
 pub returns-in-Shift-clause-course : goal.returns-in-Shift-clause-course
@@ -164,5 +172,7 @@ returns-in-Shift-clause-course g c = λ ws refused are.
     let some = some_open f old.trials.open.items (c.is_empty.ensures.some c.if-is_empty.false) in
     let came = waits_in_choice (held_of f old) (station_of f old (sink c.args.out.now)) ws some are in
     station_in_choice (station_of f c.resume_choice.new.self (sink c.resume_choice.new.out))
-    (choice_waiting came.are
+    (subst (λ (v : List Waiting). ComesInChoice old.printer.options
+    (place_at (standing f old.printer) old.visits.probes (around v g.N.Walk.HAS_SUMMARIES refused)) g.N.Walk.HAS_SUMMARIES refused
+    came.indent came.first came.second came.start (station_of f c.resume_choice.new.self (sink c.resume_choice.new.out))) (sym came.are)
     ((rw c.in-Shift.is at c.in_ok-resume_choice.ensures.course) came.indent came.first came.second came.start came.choice refused))

@@ -140,7 +140,7 @@ returns-in_err-run_commands-clause-course g c =
     let e = c.in_err-run_commands.field-0.0 in
     let probes = c.run_commands.new.self.visits.probes in
     error_after probes refused e (c.rounds.invariant.course refused)
-    (error_at probes refused e c.rounds.invariant.continues.options (c.in_err-run_commands.ensures.course refused))
+    (error_at _ probes refused e c.rounds.invariant.continues.options (c.in_err-run_commands.ensures.course refused))
 
 pub returns-in-Shift-clause-course : goal.returns-in-Shift-clause-course
 returns-in-Shift-clause-course g c = λ refused.
@@ -167,6 +167,6 @@ returns-in_err-flush_end-in-Finished-clause-course g c =
     c.from_residual-in_err-flush_end-in-Finished.ensures.1 in
     rw (residual.1, residual.2)
     λ refused.
-    flush_error c.in_err-flush_end-in-Finished.field-0.0 c.in_err-flush_end-in-Finished.ensures.none
+    flush_error (Unit {0}) c.in_err-flush_end-in-Finished.field-0.0 c.in_err-flush_end-in-Finished.ensures.none
     (come_then (c.rounds.invariant.course refused)
     (comes_at c.rounds.invariant.continues.options ((rw c.in-Finished.is at c.in_ok-run_commands.ensures.course) refused)))
