@@ -1,5 +1,5 @@
 -- The course of a run outside of trials and in choices.
-use Rattle.std.proofs.Common.{◌≡◌, ℕ, ◌+◌, ◌≤◌, ◌<◌, Bool, true, List, [], ◌∷◌, ◌++◌, length, refl, ap, sym, ◌∙◌, arith, subst, inl}
+use Rattle.std.proofs.Common.{◌≡◌, ℕ, ◌+◌, ◌≤◌, ◌<◌, Bool, true, List, [], ◌∷◌, ◌++◌, length, refl, ap, sym, ◌∙◌, arith, subst, inl, inr}
 use Rattle.std.proofs.Common.{Result, Ok, Err, IsErr}
 use Rattle.std.specs.String.{string_bytes}
 use Rattle.std.proofs.lemmas.Str.{IsUtf8-string_bytes}
@@ -14,14 +14,15 @@ use Rattle.prettyless_printer.specs.declared.answer.Choice.{Choice}
 use Rattle.prettyless_printer.specs.declared.answer.RunResult.{RunResult}
 use Rattle.prettyless_printer.specs.declared.answer.RunResult.TheVariants as run_result
 use Rattle.prettyless_printer.specs.declared.run.Run.{Run}
-use Rattle.prettyless_printer.specs.Points.{Point, Seen, Standing, buffer_seen, point_at, point_of, standing, state_at, trial_point}
+use Rattle.prettyless_sink.specs.declared.render.Render.{Ghosts}
+use Rattle.prettyless_printer.specs.Points.{Point, Seen, Standing, buffer_seen, point_at, point_of, seen_by, standing, state_at, trial_point}
 use Rattle.prettyless_printer.specs.Trials.{make_trial}
 use Rattle.prettyless_printer.specs.Open.{BeginsTrial, Held, Open, Opens, held_of}
 use Rattle.prettyless_printer.specs.Paths.{Chooses, run_of}
-use Rattle.prettyless_printer.specs.Runs.{InChoice, RunReachesChoice, Station, station_at, station_of}
-use Rattle.prettyless_printer.specs.Course.{Around, Comes, FlushEnd, NextFails, Place, Waiting, place}
+use Rattle.prettyless_printer.specs.Runs.{InChoice, ReachesWith, RunReaches, RunReachesChoice, Station, station_at, station_of}
+use Rattle.prettyless_printer.specs.Course.{Around, Comes, FlushEnd, GoOverTable, NextFails, Place, RefuseTable, Waiting, place}
 use Rattle.prettyless_printer.specs.CourseOf.{ChoiceCourse, ComesAlone, ComesInChoice, ComesInTrials, ComesToChoice, ComesToStation}
-use Rattle.prettyless_printer.specs.CourseOf.{CommandsCourse, EndCourse, EndCourseOrStop, ErrorCourse, FailsIn, IsDone, NoneFails, StopsInPart}
+use Rattle.prettyless_printer.specs.CourseOf.{EndCourse, EndCourses, EndCourseOrStop, RefusedOnce, ErrorCourse, FailsIn, IsDone, NoneFails, StopsInPart}
 use Rattle.prettyless_printer.specs.CourseOf.{GoesOn, StopsWhere, TurnCourse, WaitWith, WaitsInChoice, around, choice_waits, place_at}
 use Rattle.prettyless_step.specs.Printing.{tasks_of}
 use Rattle.prettyless_step.specs.declared.printer.Printer.{Printer}
@@ -227,3 +228,64 @@ pub course_forgets : {N : Type 0} (f : N → Tree) {o : RenderOptions} {a : Plac
 course_forgets f {o} {a} {k} {u} p q same h =
     subst (λ (z : Place). Comes o a z)
     (λ j. place (tasks_of f p) (record { column = p.column; pending = sym (pending_same f p.queue q same) j; within = p.within }) k u) h
+
+-- ---- Over a table
+
+pub end_course_after : {A E : Type 0} {o : RenderOptions} {b c : Place} (probes refused : ℕ) (r : Result A (RenderError E)) → Comes o b c
+    → EndCourse o c probes refused r → EndCourse o b probes refused r
+end_course_after probes refused (Ok x) h k = stops_after h k
+end_course_after probes refused (Err e) h k = error_after probes refused e h k
+
+-- what is left stands in a table, and the run goes on there
+pub goes_over_table : {A E : Type 0} {w z : Station} (has : Bool) (probes : ℕ) (r : Result A (RenderError E)) → w ≡ z
+    → EndCourses true w probes r → EndCourses has z probes r
+goes_over_table {w = w} {z} has probes r same h = λ ws refused are.
+    end_course_after probes refused r (come_by GoOverTable refl)
+    ((subst (λ (x : Station). EndCourses true x probes r) same h) ws refused are)
+
+-- the options are those with which a run began
+reached_options : (us : List Held) (a : Point) (z : Station) → ReachesWith us a z → z.point.printer.options ≡ a.printer.options
+reached_options [] a z h = h.options
+reached_options (u ∷ us) a z h =
+    open_options (make_trial (point_at h.at.printer h.choice.before h.at.visits) h.indent h.first) h.second z.held
+    (point_at z.point.printer z.buffer z.point.visits) h.choice.trials ∙ h.waiting.options ∙ h.continues.options
+
+pub reaches_options : (a : Point) (z : Station) → RunReaches a z → z.point.printer.options ≡ a.printer.options
+reaches_options a z h = reached_options z.held a z h
+
+-- a run that stands at a station goes to the end
+pub station_ends : {A E : Type 0} {o : RenderOptions} {b : Place} {has : Bool} {refused : ℕ} (probes : ℕ) (z : Station) (r : Result A (RenderError E))
+    → z.point.printer.options ≡ o → ComesToStation o b has refused z → EndCourses has z probes r → EndCourse o b probes refused r
+station_ends {o = o} {has = has} {refused} probes z r same h k =
+    end_course_after probes refused r h.comes
+    (subst (λ (x : RenderOptions). EndCourse x (place_at z.point.printer z.point.visits.probes (around h.waiting has refused)) probes refused r)
+    same (k h.waiting refused h.are))
+
+-- no table was made, and one was refused or not
+pub station_refuses : {o : RenderOptions} {b : Place} {has : Bool} {room old new : ℕ} {w z : Station} → w ≡ z → RefusedOnce room old new
+    → ComesToStation o b has old z → ComesToStation o b has new w
+station_refuses {o} {b} {has} {new = new} {z = z} same (inl e) h =
+    subst (λ (x : Station). ComesToStation o b has new x) (sym same) (subst (λ (n : ℕ). ComesToStation o b has n z) (sym e) h)
+station_refuses {o} {b} {has} {new = new} {z = z} same (inr e) h =
+    subst (λ (x : Station). ComesToStation o b has new x) (sym same) (record {
+      waiting = h.waiting;
+      are = h.are;
+      comes = come_then h.comes (come_by RefuseTable
+          (λ j. place_at z.point.printer z.point.visits.probes (around h.waiting has (e.1 j))));
+    })
+
+-- it goes on from there, and stops
+pub station_stops : {o : RenderOptions} {b : Place} {has : Bool} {refused : ℕ} (z w : Station) → z.point.printer.options ≡ o
+    → (h : ComesToStation o b has refused z)
+    → ComesToStation z.point.printer.options (place_at z.point.printer z.point.visits.probes (around h.waiting has refused)) has refused w
+    → ComesToStation o b has refused w
+station_stops z w same h k = station_after w same h.comes k
+
+pub station_still : {N S E : Type 0} (f : N → Tree) (g : Ghosts S E) {r q : Run N} {s t : S} → (t ≡ s) × (q ≡ r)
+    → station_of f q (seen_by g t) ≡ station_of f r (seen_by g s)
+station_still f g same = λ j. station_of f (same.1 j) (seen_by g (same.0 j))
+
+pub stops_at_options : {P : Place → Type 0} {o o' : RenderOptions} {a : Place} {probes refused : ℕ} → o' ≡ o
+    → StopsWhere P o' a probes refused → StopsWhere P o a probes refused
+stops_at_options same h =
+    record { at = h.at; comes = comes_at same h.comes; there = h.there; read = h.read; refusals = h.refusals }

@@ -1,12 +1,14 @@
 -- What the course of a run says of the run, by the way that it ends.
 use Rattle.std.specs.Prelude.{◌≡◌, ℕ, ◌≤◌, ◌<◌, ◌⊎◌, Bool, true, List, [], ◌∷◌, ◌++◌, length, Result, Ok, Err}
 use Rattle.prettyless_model.specs.declared.options.RenderOptions.{RenderOptions}
+use Rattle.prettyless_sink.specs.Sink.{rise}
 use Rattle.prettyless_sink.specs.declared.error.RenderError.{RenderError}
 use Rattle.prettyless_sink.specs.declared.error.RenderError.TheVariants.{Document, Sink, Memory}
 use Rattle.prettyless_model.specs.Tree.{Tree, Append, BreakOrFlat, Group, Nest, Text}
 use Rattle.prettyless_model.specs.Counts.{each_probe}
-use Rattle.prettyless_model.specs.Layout.{Outcome, Done, Failed, State, lay_text, some_pending}
-use Rattle.prettyless_probe.specs.Stack.{Task}
+use Rattle.prettyless_model.specs.Layout.{Outcome, Done, Failed, State, initial, lay_text}
+use Rattle.prettyless_model.specs.declared.mode.Mode.TheVariants.{Break}
+use Rattle.prettyless_probe.specs.Stack.{Task, make_task}
 use Rattle.prettyless_printer.specs.declared.answer.TurnResult.{TurnResult}
 use Rattle.prettyless_printer.specs.declared.answer.TurnResult.TheVariants as turn_result
 use Rattle.prettyless_printer.specs.declared.answer.TrialState.{TrialState}
@@ -224,6 +226,21 @@ abbrev pub EndCourseOrStop : {E : Type 0} → RenderOptions → Place → Bool �
 EndCourseOrStop o b has refused z (Ok run_result.Finished) = StopsWhere IsDone o b z.point.visits.probes refused
 EndCourseOrStop o b has refused z (Ok run_result.Shift) = ComesToStation o b has refused z
 EndCourseOrStop o b has refused z (Err e) = ErrorCourse o b z.point.visits.probes refused e
+
+-- the course of a run to the end, whichever trials wait where it begins
+abbrev pub EndCourses : {A E : Type 0} → Bool → Station → ℕ → Result A (RenderError E) → Type 0
+EndCourses has z probes r =
+    (ws : List Waiting) (refused : ℕ) → WaitWith z.held z ws →
+    EndCourse z.point.printer.options (place_at z.point.printer z.point.visits.probes (around ws has refused)) probes refused r
+
+-- a table was refused, of a size for which there was room, or none was
+abbrev pub RefusedOnce : ℕ → ℕ → ℕ → Type 0
+RefusedOnce room old new = (new ≡ old) ⊎ ((0 < room) × (new ≡ rise old))
+
+-- the course of a render of a document, over nodes that have summaries or not: from its first node on, with the counts before and after
+abbrev pub RenderCourse : {A E : Type 0} → Bool → RenderOptions → Tree → ℕ → ℕ → ℕ → ℕ → Result A (RenderError E) → Type 0
+RenderCourse has o d old_probes old_refused new_probes new_refused r =
+    EndCourse o (place (make_task 0 Break d ∷ []) initial old_probes (around [] has old_refused)) new_probes new_refused r
 
 -- ---- Texts
 

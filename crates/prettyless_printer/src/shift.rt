@@ -13,6 +13,7 @@ ghost use Rattle.prettyless_printer.specs.Renders.{EndsAnywhere};
 ghost use Rattle.prettyless_printer.specs.Runs.{RunReaches, station_of};
 ghost use Rattle.prettyless_printer.specs.Linear.{IsLinearBound, IsLinearStart};
 ghost use Rattle.prettyless_printer.specs.Spending.{EndsOverTable, left_of};
+ghost use Rattle.prettyless_printer.specs.CourseOf.{EndCourse, EndCourses, RefusedOnce, around, place_at};
 
 use crate::answer::RunResult;
 use crate::buffer::Buffer;
@@ -111,6 +112,8 @@ impl<N: Walk> Run<N> {
         requires comes { (a : Point) × RunReaches a (station_of N.tree self.old (seen_by W.Render out.old)) }
         ensures ended { IfOk result (λ o. IfSome o (λ r. (a : Point) → RunReaches a (station_of N.tree self.old (seen_by W.Render out.old))
             → EndsOverTable (W.document_errors out.new) a (left_of N.tree self.old) (seen_by W.Render out.new) self.new.visits r)) }
+        ensures course { IfOk result (λ o. IfSome o (λ r.
+            EndCourses N.HAS_SUMMARIES (station_of N.tree self.old (seen_by W.Render out.old)) self.new.visits.probes r)) }
         ensures large { IfOk result (λ o. IfNone o (min room 4294967294 < run_nodes N.tree self.old)) }
         ensures none { IfOk result (λ o. IfNone o ((out.new ≡ out.old) × (self.new ≡ self.old))) }
         ensures refused { OnErr result ((out.new ≡ out.old) × (self.new ≡ self.old)) }
@@ -150,6 +153,10 @@ impl<N: Walk> Run<N> {
         requires comes { (a : Point) × RunReaches a (station_of N.tree self.old (seen_by W.Render out.old)) }
         ensures ended { IfSome result (λ r. (a : Point) → RunReaches a (station_of N.tree self.old (seen_by W.Render out.old))
             → EndsOverTable (W.document_errors out.new) a (left_of N.tree self.old) (seen_by W.Render out.new) self.new.visits r) }
+        ensures course { IfSome result (λ r.
+            EndCourses N.HAS_SUMMARIES (station_of N.tree self.old (seen_by W.Render out.old)) self.new.visits.probes r) }
+        ensures made { IfSome result (λ _. refused.new ≡ refused.old) }
+        ensures refuses { RefusedOnce room refused.old refused.new }
         ensures large { IfNone result (0 < room → refused.new ≡ 0 → min room 4294967294 < run_nodes N.tree self.old) }
         ensures none { IfNone result ((out.new ≡ out.old) × (self.new ≡ self.old)) }
         ensures rises { refused.old ≤ refused.new }
@@ -179,6 +186,9 @@ impl<N: Walk> Run<N> {
         requires summed { IsSummed N.HAS_SUMMARIES N.tree self.old.printer.commands }
         ensures ends { EndsAnywhere (W.document_errors out.new) (point_of N.tree self.old (seen_by W.Render out.old))
             (seen_by W.Render out.new) self.new.visits result }
+        ensures course { EndCourse self.old.printer.options
+            (place_at (standing N.tree self.old.printer) self.old.visits.probes (around [] N.HAS_SUMMARIES refused.old))
+            self.new.visits.probes refused.new result }
         ensures rises { refused.old ≤ refused.new }
         ensures few { IsLinearStart (standing N.tree self.old.printer) → refused.new ≡ 0
             → IsLinearBound 16 1000 (nodes (tasks_of N.tree self.old.printer)) self.old.visits self.new.visits }

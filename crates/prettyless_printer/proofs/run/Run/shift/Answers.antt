@@ -9,6 +9,7 @@ use Rattle.prettyless_printer.specs.declared.run.Run.{Run}
 use Rattle.prettyless_printer.specs.Points.{seen_by, standing}
 use Rattle.prettyless_printer.specs.Open.{held, held_of, run_documents, run_nodes, seconds}
 use Rattle.prettyless_printer.specs.Runs.{RunReaches}
+use Rattle.prettyless_printer.proofs.RunCourses.{goes_over_table}
 use Rattle.prettyless_printer.proofs.Shifted.{same_station, shifted_stands, spends_over}
 use Rattle.prettyless_printer.proofs.run.Run.shift.Goals as goal
 
@@ -80,3 +81,12 @@ returns-clause-ended g c = λ a comes.
       ends = (standing _ c.finish-ended.new.self.printer, c.finish-ended.ensures.ends a there);
       spends = λ plain. spends_over same (c.finish-ended.ensures.spends a there plain);
     }
+
+-- it goes on in its course
+pub returns-clause-course : goal.returns-clause-course
+returns-clause-course g c =
+    let f = g.N.Walk.tree in
+    let same = same_station f c.args.self.now (seen_by g.W.Render c.args.out.now)
+    c.in_ok-trials.ensures (shifted_stands f _ c.args.self.now.printer c.in_ok-printer.printer c.in_ok-printer.ensures.shifted)
+    c.replace-buffer.ensures.value in
+    goes_over_table g.N.Walk.HAS_SUMMARIES c.finish-ended.new.self.visits.probes c.finish-ended.result same c.finish-ended.ensures.course

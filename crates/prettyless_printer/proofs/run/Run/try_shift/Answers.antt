@@ -18,3 +18,7 @@ returns-in-Err-clause-large g c = λ some none. absurd (omega (arith, none, c.on
 
 pub returns-in-Err-clause-none : goal.returns-in-Err-clause-none
 returns-in-Err-clause-none g c = c.in-Err.ensures.refused
+
+-- where it has come in its course
+pub returns-in-Ok-Some-clause-course : goal.returns-in-Ok-Some-clause-course
+returns-in-Ok-Some-clause-course g c = rw c.in-Ok-Some.field-0-is at c.in-Ok-Some.ensures.course
