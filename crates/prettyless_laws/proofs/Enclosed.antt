@@ -15,8 +15,9 @@ use Rattle.prettyless_model.specs.declared.mode.Mode.TheVariants.{Break, Flat}
 use Rattle.prettyless_laws.specs.Trace.{Piece, Gap, Alternative, Side, First, Second, Tracing, Traced, Stopped, after_pieces, traced_then}
 use Rattle.prettyless_laws.specs.Trace.{trace_text, trace_payload, trace_plain_break, noted_choice, trace_accept, BreakTraces, trace_at}
 use Rattle.prettyless_laws.specs.Trace.{trace_each, trace_break_with, trace_breaks, trace_end_with, trace_finish, trace_by, trace_of, trace}
-use Rattle.prettyless_laws.specs.Enclosed.{Enclosure, KeptBranch, FlatGroup, BrokenGroup, Flattened, Enclosed, EnclosedTracing, TracedIn, StoppedIn, bare}
-use Rattle.prettyless_laws.specs.Enclosed.{bare_trace, put_in, laid_in, after_enclosed, enclosed_then, noted, enclosed_accept, EnclosedBreaks}
+use Rattle.prettyless_laws.specs.Enclosed.{Enclosure, KeptBranch, FlatGroup, BrokenGroup, Flattened, Enclosed, EnclosedTracing}
+use Rattle.prettyless_laws.specs.Enclosed.{TracedIn, StoppedIn, EnclosedBreaks, bare, bare_trace, put_in, laid_in, after_enclosed}
+use Rattle.prettyless_laws.specs.Enclosed.{enclosed_then, noted, enclosed_accept}
 use Rattle.prettyless_laws.specs.Enclosed.{enclosed_at, enclosed_each, enclosed_pending, enclosed_break_with, enclosed_breaks}
 use Rattle.prettyless_laws.specs.Enclosed.{enclosed_end_with, enclosed_finish, enclosed_by, enclosed_trace, pieces_of, without_enclosures}
 
@@ -151,8 +152,8 @@ unfolding enclosed_breaks trace_breaks
 breaks_agree o zero = record { agree = λ d i m rest st. refl }
 breaks_agree o (suc n) = record { agree = λ d i m rest st. without_break o (breaks_agree o n) st.pending d i m rest st }
 
-without_end : (o : RenderOptions) {a : EnclosedBreaks} {b : BreakTraces} → BreaksAgree a b → (f : State → EnclosedTracing) (g : State → Tracing)
-    → ((u : State) → without_enclosures (f u) ≡ g u) → (ps : List Tree) (st : State)
+without_end : (o : RenderOptions) {a : EnclosedBreaks} {b : BreakTraces} → BreaksAgree a b
+    → (f : State → EnclosedTracing) (g : State → Tracing) → ((u : State) → without_enclosures (f u) ≡ g u) → (ps : List Tree) (st : State)
     → without_enclosures (enclosed_end_with o a f ps st) ≡ trace_end_with o b g ps st
 without_end o k f g e [] st = refl
 without_end o k f g e (p ∷ ps) st = without_pending o k (p ∷ ps) 0 Break [] st f g e

@@ -25,8 +25,9 @@ use Rattle.prettyless_laws.specs.Trace as traces
 use Rattle.prettyless_laws.specs.Trace.{Piece, Ending, Indent, Gap, Source, Alternative, Side, First, Second, Tracing, Traced, Stopped}
 use Rattle.prettyless_laws.specs.Trace.{trace_text, trace_payload, trace_ending, trace_plain_break}
 use Rattle.prettyless_laws.specs.FlatLines.{IsOnOneLine}
-use Rattle.prettyless_laws.specs.Enclosed.{Enclosure, KeptBranch, FlatGroup, BrokenGroup, Flattened, Enclosed, EnclosedTracing, TracedIn, StoppedIn, bare}
-use Rattle.prettyless_laws.specs.Enclosed.{bare_trace, put_in, laid_in, after_enclosed, enclosed_then, noted, enclosed_accept, EnclosedBreaks}
+use Rattle.prettyless_laws.specs.Enclosed.{Enclosure, KeptBranch, FlatGroup, BrokenGroup, Flattened, Enclosed, EnclosedTracing}
+use Rattle.prettyless_laws.specs.Enclosed.{TracedIn, StoppedIn, EnclosedBreaks, bare, bare_trace, put_in, laid_in, after_enclosed}
+use Rattle.prettyless_laws.specs.Enclosed.{enclosed_then, noted, enclosed_accept}
 use Rattle.prettyless_laws.specs.Enclosed.{enclosed_at, enclosed_each, enclosed_pending, enclosed_break_with, enclosed_breaks}
 use Rattle.prettyless_laws.specs.Enclosed.{enclosed_end_with, enclosed_finish, enclosed_by, enclosed_trace, enclosed_pieces}
 use Rattle.prettyless_laws.specs.Width.{IsInFlatGroup, IsInKeptBranch, GroupsAreBroken, IsPast}
@@ -117,8 +118,9 @@ stays_noted width next side x h =
     (All-cons (λ (p : Enclosed). IsOnOneLine width p.piece) (bare (Alternative side)) [] tt (stays_none width)) h
 
 -- one of two documents by a test
-stays_choice : (o : RenderOptions) (brk : EnclosedBreaks) (y n : Tree) (i : ℕ) (next : Column → Bool → Bool) (rest : List Entry) (st : State)
-    (t : Bool) → answer_of (if t then look o.width y i Flat st.column (some_pending st.pending) else look o.width n i Flat st.column
+stays_choice : (o : RenderOptions) (brk : EnclosedBreaks) (y n : Tree) (i : ℕ) (next : Column → Bool → Bool) (rest : List Entry)
+    (st : State) (t : Bool)
+    → answer_of (if t then look o.width y i Flat st.column (some_pending st.pending) else look o.width n i Flat st.column
     (some_pending st.pending)) next ≡ true
     → (answer_of (look o.width y i Flat st.column (some_pending st.pending)) next ≡ true
     → StaysOnLine o.width next (enclosed_at o brk y i Flat rest st))
@@ -129,8 +131,8 @@ stays_choice : (o : RenderOptions) (brk : EnclosedBreaks) (y n : Tree) (i : ℕ)
 stays_choice o brk y n i next rest st true h f g = stays_noted o.width next First (enclosed_at o brk y i Flat rest st) (f h)
 stays_choice o brk y n i next rest st false h f g = stays_noted o.width next Second (enclosed_at o brk n i Flat rest st) (g h)
 
-stays_weak : (o : RenderOptions) (next : Column → Bool → Bool) (x : EnclosedTracing) (st : State) → next st.column (some_pending st.pending) ≡ true
-    → (x ≡ TracedIn [] st) ⊎ (x ≡ StoppedIn []) → StaysOnLine o.width next x
+stays_weak : (o : RenderOptions) (next : Column → Bool → Bool) (x : EnclosedTracing) (st : State)
+    → next st.column (some_pending st.pending) ≡ true → (x ≡ TracedIn [] st) ⊎ (x ≡ StoppedIn []) → StaysOnLine o.width next x
 stays_weak o next x st h (inl e) = subst (StaysOnLine o.width next) (sym e) (stays_none o.width, h)
 stays_weak o next x st h (inr e) = subst (StaysOnLine o.width next) (sym e) (stays_none o.width)
 
@@ -239,8 +241,8 @@ keeps_after width st u ps (TracedIn qs v) h k = λ n.
     (x.0, All-append (IsWithin width) ps qs x.1 y.1)
 keeps_after width st u ps (StoppedIn qs) h k = tt
 
-keeps_then : (width : ℕ) (st : State) (x : EnclosedTracing) (f : State → EnclosedTracing) → Keeps width st x → ((u : State) → Keeps width u (f u))
-    → Keeps width st (enclosed_then x f)
+keeps_then : (width : ℕ) (st : State) (x : EnclosedTracing) (f : State → EnclosedTracing) → Keeps width st x
+    → ((u : State) → Keeps width u (f u)) → Keeps width st (enclosed_then x f)
 keeps_then width st (TracedIn ps u) f h k = keeps_after width st u ps (f u) h (k u)
 keeps_then width st (StoppedIn ps) f h k = tt
 

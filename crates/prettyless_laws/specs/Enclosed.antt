@@ -118,7 +118,8 @@ enclosed_each o brk (d ∷ ds) i m rest st =
     enclosed_then (enclosed_at o brk d i m (entries i ds ++ rest) st) (λ u. enclosed_each o brk ds i m rest u)
 
 -- what is pending, after the weak spaces before it, and then what follows it
-abbrev pub enclosed_pending : RenderOptions → EnclosedBreaks → List Tree → ℕ → Mode → List Entry → State → (State → EnclosedTracing) → EnclosedTracing
+abbrev pub enclosed_pending :
+    RenderOptions → EnclosedBreaks → List Tree → ℕ → Mode → List Entry → State → (State → EnclosedTracing) → EnclosedTracing
 enclosed_pending o brk ps i m rest st next =
     after_enclosed (bare (Gap st.column.padding) ∷ []) (enclosed_then (enclosed_each o brk ps i m rest (flushed o st)) next)
 
