@@ -14,3 +14,5 @@ pub mod Owed
 pub mod Sound
 pub mod WrittenOut
 pub mod Readings
+pub mod Enclosed
+pub mod StaysWithin
