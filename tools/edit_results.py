@@ -19,6 +19,11 @@ GOAL_GONE = re.compile(r"`goal\.[^`]*`: module .*has no\s+`", re.S)
 # Values at which an open goal is false were found, so no answer can prove it.
 FALSE = "allow values at which this goal is false"
 
+# What `rt must-fail` prints of an edit: the beginning of the first message that is not of a name that is gone.
+TOLD = re.compile(r"must-fail (\w+)/(\S+\.edit): refused, as it must be: (.*)")
+TOLD_GOAL = re.compile(r"note: src/\S+: it is not proved that .*?\(`([\w-]+)")
+TOLD_ANSWER = re.compile(r"(?:\./)?proofs/(\S+)/[^/]+\.antt:\d+:\d+: error: `([^`]+)`: (?!record `|`goal\.)")
+
 # The goals of a contract's clauses at a return, also of a closure's, and those of a loop, with the loop's name.
 AT_RETURN = re.compile(r"(?:^|-)returns(?:-|$)")
 OF_LOOP = re.compile(r"(.+?)-(?:init|preserved|smaller)(?:-|$)")
@@ -54,7 +59,8 @@ class Said:
         every = [it for it in self.verdicts if any(it == name or it.startswith(f"{name}::") for name in functions)]
         gone = [goal for it in every for kind in (self.goals, self.names) for goal in kind.get(it, [])]
         refused = [(it, goal) for it in every for goal in self.refused(it)]
-        clauses = [goal for it, goal in refused if self.is_of_a_clause(edit, it, goal)]
+        knows = lambda function: lambda loop: self.crate.knows_loop(function, loop)
+        clauses = [goal for it, goal in refused if is_of_a_clause(edit, goal, knows(it))]
         if clauses:
             return CLAUSE, min(clauses, key=lambda goal: not AT_RETURN.search(goal))
         if refused:
@@ -72,14 +78,22 @@ class Said:
         found = self.wrong.get(function, []) + [it for it in self.open.get(function, []) if kind_of(it) not in renamed]
         return found + [f"no proof is made of {function}"] * bool(NOT_COVERED.match(self.verdicts[function]))
 
-    def is_of_a_clause(self, edit, function, goal):
-        """Whether a goal is of a clause: at a return, of a type's invariant, or of that of a loop that was there before the edit."""
-        if "-requires" in goal:
-            return False
-        if AT_RETURN.search(goal) or goal.startswith("invariant_of-"):
-            return True
-        loop = OF_LOOP.match(goal)
-        return bool(loop) and (not edit.brings_a_loop() or self.crate.knows_loop(function, loop[1]))
+
+def is_of_a_clause(edit, goal, knows_loop):
+    """Whether a goal is of a clause: at a return, of a type's invariant, or of that of a loop that was there before the edit."""
+    if "-requires" in goal:
+        return False
+    if AT_RETURN.search(goal) or goal.startswith("invariant_of-"):
+        return True
+    loop = OF_LOOP.match(goal)
+    return bool(loop) and (not edit.brings_a_loop() or knows_loop(loop[1]))
+
+
+def told_clause(edit, message):
+    """The goal of a clause that `rt must-fail` names in the beginning of a message of an edit, or None. A loop's may be one that the edit brings."""
+    found = TOLD_GOAL.match(message) or TOLD_ANSWER.match(message)
+    goal = found and found[found.lastindex]
+    return goal if goal and is_of_a_clause(edit, goal, lambda loop: False) else None
 
 
 def kind_of(goal):
