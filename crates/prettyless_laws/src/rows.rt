@@ -1,5 +1,5 @@
-//! Traces of small documents, what small documents show, and what they are on a flat line, as the definitions alone compute
-//! them. The functions do nothing: their contracts speak.
+//! Traces of small documents, what is around their texts, what small documents show, and what they are on a flat line, as the
+//! definitions alone compute them. The functions do nothing: their contracts speak.
 
 ghost use Rattle.std.specs.Prelude.{pos, codes, true, false, ◌∷◌, ◌++◌, []};
 ghost use Rattle.prettyless_model.specs.declared.choice.ColumnTest.TheVariants as by_column;
@@ -64,7 +64,7 @@ pub fn rows()
         (Gap 0 ∷ text_piece "a" 1 ∷ Ending ∷ Indent 0 false ∷ []) }
 {}
 
-/// What is around the texts of small documents. The texts past the width show that `law_width` says as much as there is to say.
+/// What is around the texts of small documents. Those past the width are what `law_width` leaves out.
 pub fn enclosures()
     ensures fills { HasTextsIn 3 (pair "a" "b")
         (text_in (FlatGroup ∷ []) "a" 1 ∷ text_in (FlatGroup ∷ []) " " 2 ∷ text_in (FlatGroup ∷ []) "b" 3 ∷ []) }

@@ -1,5 +1,5 @@
 use Rattle.prettyless_laws.proofs.Enclosed.{enclosed_is_trace}
-use Rattle.prettyless_laws.proofs.StaysWithin.{flat_groups_stay, past_is_broken, kept_stays}
+use Rattle.prettyless_laws.proofs.WithinWidth.{flat_groups_stay, past_is_broken, kept_stays}
 use Rattle.prettyless_laws.proofs.width.law_width.Goals as goal
 
 pub returns-clause-trace : goal.returns-clause-trace

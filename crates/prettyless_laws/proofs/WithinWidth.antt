@@ -68,19 +68,23 @@ each_either P f false x y h k = each_one P f (Alternative Second) y k
 
 -- ---- flat lines that fit
 
+-- the piece stays on its line, and within the width
+abbrev IsOnLine : ℕ → Enclosed → Type 0
+IsOnLine width p = IsOnOneLine width p.piece
+
 -- the pieces stay on their line, and with what follows the look still answers yes
 abbrev StaysOnLine : ℕ → (Column → Bool → Bool) → EnclosedTracing → Type 0
 StaysOnLine width next (TracedIn ps u) =
-    All (λ (p : Enclosed). IsOnOneLine width p.piece) ps × (next u.column (some_pending u.pending) ≡ true)
-StaysOnLine width next (StoppedIn ps) = All (λ (p : Enclosed). IsOnOneLine width p.piece) ps
+    All (IsOnLine width) ps × (next u.column (some_pending u.pending) ≡ true)
+StaysOnLine width next (StoppedIn ps) = All (IsOnLine width) ps
 
 -- a break that leaves out a weak line where the line is fresh and nothing is pending, if it has levels
 pub record LeavesOutWeakLines (brk : EnclosedBreaks) : Type 0 where
   pub leaves_out : (i : ℕ) (rest : List Entry) (st : State) → st.pending ≡ [] → st.column.fresh ≡ true
       → (brk WeakLine i Flat rest st ≡ TracedIn [] st) ⊎ (brk WeakLine i Flat rest st ≡ StoppedIn [])
 
-stays_none : (width : ℕ) → All (λ (p : Enclosed). IsOnOneLine width p.piece) []
-stays_none width = All-nil (λ (p : Enclosed). IsOnOneLine width p.piece)
+stays_none : (width : ℕ) → All (IsOnLine width) []
+stays_none width = All-nil (IsOnLine width)
 
 stays_text : (o : RenderOptions) (w : ℕ) (s : List ℕ) (next : Column → Bool → Bool) (st : State)
     → answer_of (look_text o.width w s st.column (some_pending st.pending)) next ≡ true
@@ -88,22 +92,21 @@ stays_text : (o : RenderOptions) (w : ℕ) (s : List ℕ) (next : Column → Boo
 stays_text o w [] next st h = (stays_none o.width, h)
 stays_text o w (b ∷ bs) next st h =
     let parts = only_on (nat_le (commit w st.column).position o.width) (commit w st.column) (some_pending st.pending) next h in
-    let P : Enclosed → Type 0 = λ p. IsOnOneLine o.width p.piece in
     let text = traces.Text (b ∷ bs) (commit w st.column).position in (
-      All-cons P (bare (Gap st.column.padding)) (bare text ∷ []) tt
-          (All-cons P (bare text) [] (leb-true _ _ parts.0) (All-nil P)),
+      All-cons (IsOnLine o.width) (bare (Gap st.column.padding)) (bare text ∷ []) tt
+          (All-cons (IsOnLine o.width) (bare text) [] (leb-true _ _ parts.0) (stays_none o.width)),
       parts.1,
     )
 
 stays_laid : (width : ℕ) (next : Column → Bool → Bool) (e : Enclosure) (x : EnclosedTracing) → StaysOnLine width next x
     → StaysOnLine width next (laid_in e x)
-stays_laid width next e (TracedIn ps u) h = (All-map (λ (p : Enclosed). IsOnOneLine width p.piece) (put_in e) ps h.0, h.1)
-stays_laid width next e (StoppedIn ps) h = All-map (λ (p : Enclosed). IsOnOneLine width p.piece) (put_in e) ps h
+stays_laid width next e (TracedIn ps u) h = (All-map (IsOnLine width) (put_in e) ps h.0, h.1)
+stays_laid width next e (StoppedIn ps) h = All-map (IsOnLine width) (put_in e) ps h
 
 stays_after : (width : ℕ) (next : Column → Bool → Bool) (ps : List Enclosed) (x : EnclosedTracing)
-    → All (λ (p : Enclosed). IsOnOneLine width p.piece) ps → StaysOnLine width next x → StaysOnLine width next (after_enclosed ps x)
-stays_after width next ps (TracedIn qs u) h k = (All-append (λ (p : Enclosed). IsOnOneLine width p.piece) ps qs h k.0, k.1)
-stays_after width next ps (StoppedIn qs) h k = All-append (λ (p : Enclosed). IsOnOneLine width p.piece) ps qs h k
+    → All (IsOnLine width) ps → StaysOnLine width next x → StaysOnLine width next (after_enclosed ps x)
+stays_after width next ps (TracedIn qs u) h k = (All-append (IsOnLine width) ps qs h k.0, k.1)
+stays_after width next ps (StoppedIn qs) h k = All-append (IsOnLine width) ps qs h k
 
 stays_then : (width : ℕ) (mid next : Column → Bool → Bool) (x : EnclosedTracing) (f : State → EnclosedTracing) → StaysOnLine width mid x
     → ((u : State) → mid u.column (some_pending u.pending) ≡ true → StaysOnLine width next (f u))
@@ -115,7 +118,7 @@ stays_noted : (width : ℕ) (next : Column → Bool → Bool) (side : Side) (x :
     → StaysOnLine width next (noted side x)
 stays_noted width next side x h =
     stays_after width next (bare (Alternative side) ∷ []) x
-    (All-cons (λ (p : Enclosed). IsOnOneLine width p.piece) (bare (Alternative side)) [] tt (stays_none width)) h
+    (All-cons (IsOnLine width) (bare (Alternative side)) [] tt (stays_none width)) h
 
 -- one of two documents by a test
 stays_choice : (o : RenderOptions) (brk : EnclosedBreaks) (y n : Tree) (i : ℕ) (next : Column → Bool → Bool) (rest : List Entry)
@@ -367,11 +370,11 @@ fitting_holds : (width : ℕ) (next : Column → Bool → Bool) (x : EnclosedTra
     → Each (Holds width Break) (laid_in FlatGroup x)
 fitting_holds width next (TracedIn ps u) h k =
     All-map (Holds width Break) (put_in FlatGroup) ps
-    (each_both (λ p. IsOnOneLine width p.piece) (Holds width Flat) (λ p. Holds width Break (put_in FlatGroup p))
+    (each_both (IsOnLine width) (Holds width Flat) (λ p. Holds width Break (put_in FlatGroup p))
     (λ p a b. (λ n. a, b)) ps h.0 k)
 fitting_holds width next (StoppedIn ps) h k =
     All-map (Holds width Break) (put_in FlatGroup) ps
-    (each_both (λ p. IsOnOneLine width p.piece) (Holds width Flat) (λ p. Holds width Break (put_in FlatGroup p))
+    (each_both (IsOnLine width) (Holds width Flat) (λ p. Holds width Break (put_in FlatGroup p))
     (λ p a b. (λ n. a, b)) ps h k)
 
 accept_holds : (o : RenderOptions) (st : State) (x y : EnclosedTracing) → Keeps o.width (in_trial st) x → Each (Holds o.width Break) x
