@@ -16,14 +16,14 @@ use Rattle.prettyless_laws.specs.Trace.{Piece, Gap, Alternative, Side, First, Se
 use Rattle.prettyless_laws.specs.Trace.{trace_text, trace_payload, trace_plain_break, noted_choice, trace_accept, BreakTraces, trace_at}
 use Rattle.prettyless_laws.specs.Trace.{trace_each, trace_break_with, trace_breaks, trace_end_with, trace_finish, trace_by, trace_of, trace}
 use Rattle.prettyless_laws.specs.Enclosed.{Enclosure, KeptBranch, FlatGroup, BrokenGroup, Flattened, Enclosed, EnclosedTracing}
-use Rattle.prettyless_laws.specs.Enclosed.{TracedIn, StoppedIn, EnclosedBreaks, bare, bare_trace, put_in, laid_in, after_enclosed}
-use Rattle.prettyless_laws.specs.Enclosed.{enclosed_then, noted, enclosed_accept}
+use Rattle.prettyless_laws.specs.Enclosed.{TracedIn, StoppedIn, EnclosedBreaks, enclosed_alone, bare_trace, put_in, laid_in, after_enclosed}
+use Rattle.prettyless_laws.specs.Enclosed.{enclosed_then, enclosed_choice, enclosed_accept}
 use Rattle.prettyless_laws.specs.Enclosed.{enclosed_at, enclosed_each, enclosed_pending, enclosed_break_with, enclosed_breaks}
-use Rattle.prettyless_laws.specs.Enclosed.{enclosed_end_with, enclosed_finish, enclosed_by, enclosed_trace, pieces_of, without_enclosures}
+use Rattle.prettyless_laws.specs.Enclosed.{enclosed_end_with, enclosed_finish, enclosed_by, enclosed_trace, bare_pieces, without_enclosures}
 
 -- ---- traces without what is around their pieces
 
-bare_pieces : (ps : List Piece) → pieces_of (map bare ps) ≡ ps
+bare_pieces : (ps : List Piece) → bare_pieces (map enclosed_alone ps) ≡ ps
 bare_pieces [] = refl
 bare_pieces (p ∷ ps) = ap (λ (qs : List Piece). p ∷ qs) (bare_pieces ps)
 
@@ -31,7 +31,7 @@ without_bare : (x : Tracing) → without_enclosures (bare_trace x) ≡ x
 without_bare (Traced ps st) = ap (λ (qs : List Piece). Traced qs st) (bare_pieces ps)
 without_bare (Stopped ps) = ap Stopped (bare_pieces ps)
 
-laid_pieces : (e : Enclosure) (ps : List Enclosed) → pieces_of (map (put_in e) ps) ≡ pieces_of ps
+laid_pieces : (e : Enclosure) (ps : List Enclosed) → bare_pieces (map (put_in e) ps) ≡ bare_pieces ps
 laid_pieces e [] = refl
 laid_pieces e (p ∷ ps) = ap (λ (qs : List Piece). p.piece ∷ qs) (laid_pieces e ps)
 
@@ -39,24 +39,24 @@ without_laid : (e : Enclosure) (x : EnclosedTracing) → without_enclosures (lai
 without_laid e (TracedIn ps st) = ap (λ (qs : List Piece). Traced qs st) (laid_pieces e ps)
 without_laid e (StoppedIn ps) = ap Stopped (laid_pieces e ps)
 
-without_after : (ps : List Enclosed) (x : EnclosedTracing) → without_enclosures (after_enclosed ps x) ≡ after_pieces (pieces_of ps)
+without_after : (ps : List Enclosed) (x : EnclosedTracing) → without_enclosures (after_enclosed ps x) ≡ after_pieces (bare_pieces ps)
     (without_enclosures x)
 without_after ps (TracedIn qs st) = ap (λ (rs : List Piece). Traced rs st) (map-append (λ (p : Enclosed). p.piece) ps qs)
 without_after ps (StoppedIn qs) = ap Stopped (map-append (λ (p : Enclosed). p.piece) ps qs)
 
 without_then : (x : EnclosedTracing) (f : State → EnclosedTracing) (g : State → Tracing) → ((u : State) → without_enclosures (f u) ≡ g u)
     → without_enclosures (enclosed_then x f) ≡ traced_then (without_enclosures x) g
-without_then (TracedIn ps st) f g e = without_after ps (f st) ∙ ap (after_pieces (pieces_of ps)) (e st)
+without_then (TracedIn ps st) f g e = without_after ps (f st) ∙ ap (after_pieces (bare_pieces ps)) (e st)
 without_then (StoppedIn ps) f g e = refl
 
 -- ---- choices
 
 without_noted : (side : Side) (x : EnclosedTracing) (y : Tracing) → without_enclosures x ≡ y
-    → without_enclosures (noted side x) ≡ noted_choice side y
-without_noted side x y e = without_after (bare (Alternative side) ∷ []) x ∙ ap (noted_choice side) e
+    → without_enclosures (enclosed_choice side x) ≡ noted_choice side y
+without_noted side x y e = without_after (enclosed_alone (Alternative side) ∷ []) x ∙ ap (noted_choice side) e
 
 without_either : (t : Bool) (x y : EnclosedTracing) (z w : Tracing) → without_enclosures x ≡ z → without_enclosures y ≡ w
-    → without_enclosures (if t then noted First x else noted Second y) ≡ (if t then noted_choice First z else noted_choice Second w)
+    → without_enclosures (if t then enclosed_choice First x else enclosed_choice Second y) ≡ (if t then noted_choice First z else noted_choice Second w)
 without_either true x y z w e f = without_noted First x z e
 without_either false x y z w e f = without_noted Second y w f
 
@@ -64,7 +64,7 @@ without_accept : (o : RenderOptions) (was : Bool) (x y : EnclosedTracing) (z w :
     → without_enclosures y ≡ w → without_enclosures (enclosed_accept o was x y) ≡ trace_accept o was z w
 without_accept o was (TracedIn ps st) y z w e f =
     without_either (st.within && padding_fits o.width (some_pending st.pending) st.column)
-    (laid_in KeptBranch (TracedIn ps (record st { within = was }))) y (Traced (pieces_of ps) (record st { within = was })) w
+    (laid_in KeptBranch (TracedIn ps (record st { within = was }))) y (Traced (bare_pieces ps) (record st { within = was })) w
     (without_laid KeptBranch (TracedIn ps (record st { within = was }))) f
     ∙ ap (λ (v : Tracing). trace_accept o was v w) e
 without_accept o was (StoppedIn ps) y z w e f = without_noted Second y w f ∙ ap (λ (v : Tracing). trace_accept o was v w) e
@@ -135,7 +135,7 @@ without_pending : (o : RenderOptions) {a : EnclosedBreaks} {b : BreakTraces} →
     → without_enclosures (enclosed_pending o a ps i m rest st f)
     ≡ after_pieces (Gap st.column.padding ∷ []) (traced_then (trace_each o b ps i m rest (flushed o st)) g)
 without_pending o {a} {b} k ps i m rest st f g e =
-    without_after (bare (Gap st.column.padding) ∷ []) (enclosed_then (enclosed_each o a ps i m rest (flushed o st)) f)
+    without_after (enclosed_alone (Gap st.column.padding) ∷ []) (enclosed_then (enclosed_each o a ps i m rest (flushed o st)) f)
     ∙ ap (after_pieces (Gap st.column.padding ∷ []))
     (without_then (enclosed_each o a ps i m rest (flushed o st)) f g e
     ∙ ap (λ (x : Tracing). traced_then x g) (without_each o k ps i m rest (flushed o st)))

@@ -26,11 +26,11 @@ use Rattle.prettyless_laws.specs.Trace.{Piece, Ending, Indent, Gap, Source, Alte
 use Rattle.prettyless_laws.specs.Trace.{trace_text, trace_payload, trace_ending, trace_plain_break}
 use Rattle.prettyless_laws.specs.FlatLines.{IsOnOneLine}
 use Rattle.prettyless_laws.specs.Enclosed.{Enclosure, KeptBranch, FlatGroup, BrokenGroup, Flattened, Enclosed, EnclosedTracing}
-use Rattle.prettyless_laws.specs.Enclosed.{TracedIn, StoppedIn, EnclosedBreaks, bare, bare_trace, put_in, laid_in, after_enclosed}
-use Rattle.prettyless_laws.specs.Enclosed.{enclosed_then, noted, enclosed_accept}
+use Rattle.prettyless_laws.specs.Enclosed.{TracedIn, StoppedIn, EnclosedBreaks, enclosed_alone, bare_trace, put_in, laid_in, after_enclosed}
+use Rattle.prettyless_laws.specs.Enclosed.{enclosed_then, enclosed_choice, enclosed_accept}
 use Rattle.prettyless_laws.specs.Enclosed.{enclosed_at, enclosed_each, enclosed_pending, enclosed_break_with, enclosed_breaks}
 use Rattle.prettyless_laws.specs.Enclosed.{enclosed_end_with, enclosed_finish, enclosed_by, enclosed_trace, enclosed_pieces}
-use Rattle.prettyless_laws.specs.Width.{IsInFlatGroup, IsInKeptBranch, GroupsAreBroken, IsPast}
+use Rattle.prettyless_laws.specs.Width.{IsInFlatGroup, IsInKeptBranch, GroupsAreBroken, EndsPast}
 use Rattle.prettyless_laws.proofs.FlatLines.{only_on, none_pending, some_pending-more}
 
 -- ---- what holds of each piece of a trace
@@ -39,9 +39,9 @@ abbrev Each : (Enclosed → Type 0) → EnclosedTracing → Type 0
 Each P (TracedIn ps st) = All P ps
 Each P (StoppedIn ps) = All P ps
 
-each_bare : (P : Enclosed → Type 0) → ((p : Piece) → P (bare p)) → (x : Tracing) → Each P (bare_trace x)
-each_bare P f (Traced ps st) = All-map P bare ps (λ k d l. f _)
-each_bare P f (Stopped ps) = All-map P bare ps (λ k d l. f _)
+each_bare : (P : Enclosed → Type 0) → ((p : Piece) → P (enclosed_alone p)) → (x : Tracing) → Each P (bare_trace x)
+each_bare P f (Traced ps st) = All-map P enclosed_alone ps (λ k d l. f _)
+each_bare P f (Stopped ps) = All-map P enclosed_alone ps (λ k d l. f _)
 
 each_laid : (P Q : Enclosed → Type 0) (e : Enclosure) → ((p : Enclosed) → P p → Q (put_in e p)) → (x : EnclosedTracing) → Each P x
     → Each Q (laid_in e x)
@@ -57,12 +57,12 @@ each_then : (P : Enclosed → Type 0) (x : EnclosedTracing) (f : State → Enclo
 each_then P (TracedIn ps st) f h k = each_after P ps (f st) h (k st)
 each_then P (StoppedIn ps) f h k = h
 
-each_one : (P : Enclosed → Type 0) → ((p : Piece) → P (bare p)) → (p : Piece) (x : EnclosedTracing) → Each P x
-    → Each P (after_enclosed (bare p ∷ []) x)
-each_one P f p x h = each_after P (bare p ∷ []) x (All-cons P (bare p) [] (f p) (All-nil P)) h
+each_one : (P : Enclosed → Type 0) → ((p : Piece) → P (enclosed_alone p)) → (p : Piece) (x : EnclosedTracing) → Each P x
+    → Each P (after_enclosed (enclosed_alone p ∷ []) x)
+each_one P f p x h = each_after P (enclosed_alone p ∷ []) x (All-cons P (enclosed_alone p) [] (f p) (All-nil P)) h
 
-each_either : (P : Enclosed → Type 0) → ((p : Piece) → P (bare p)) → (t : Bool) (x y : EnclosedTracing) → (t ≡ true → Each P x) → Each P y
-    → Each P (if t then noted First x else noted Second y)
+each_either : (P : Enclosed → Type 0) → ((p : Piece) → P (enclosed_alone p)) → (t : Bool) (x y : EnclosedTracing) → (t ≡ true → Each P x) → Each P y
+    → Each P (if t then enclosed_choice First x else enclosed_choice Second y)
 each_either P f true x y h k = each_one P f (Alternative First) x (h refl)
 each_either P f false x y h k = each_one P f (Alternative Second) y k
 
@@ -93,8 +93,8 @@ stays_text o w [] next st h = (stays_none o.width, h)
 stays_text o w (b ∷ bs) next st h =
     let parts = only_on (nat_le (commit w st.column).position o.width) (commit w st.column) (some_pending st.pending) next h in
     let text = traces.Text (b ∷ bs) (commit w st.column).position in (
-      All-cons (IsOnLine o.width) (bare (Gap st.column.padding)) (bare text ∷ []) tt
-          (All-cons (IsOnLine o.width) (bare text) [] (leb-true _ _ parts.0) (stays_none o.width)),
+      All-cons (IsOnLine o.width) (enclosed_alone (Gap st.column.padding)) (enclosed_alone text ∷ []) tt
+          (All-cons (IsOnLine o.width) (enclosed_alone text) [] (leb-true _ _ parts.0) (stays_none o.width)),
       parts.1,
     )
 
@@ -115,10 +115,10 @@ stays_then width mid next (TracedIn ps u) f h k = stays_after width next ps (f u
 stays_then width mid next (StoppedIn ps) f h k = h
 
 stays_noted : (width : ℕ) (next : Column → Bool → Bool) (side : Side) (x : EnclosedTracing) → StaysOnLine width next x
-    → StaysOnLine width next (noted side x)
+    → StaysOnLine width next (enclosed_choice side x)
 stays_noted width next side x h =
-    stays_after width next (bare (Alternative side) ∷ []) x
-    (All-cons (IsOnLine width) (bare (Alternative side)) [] tt (stays_none width)) h
+    stays_after width next (enclosed_alone (Alternative side) ∷ []) x
+    (All-cons (IsOnLine width) (enclosed_alone (Alternative side)) [] tt (stays_none width)) h
 
 -- one of two documents by a test
 stays_choice : (o : RenderOptions) (brk : EnclosedBreaks) (y n : Tree) (i : ℕ) (next : Column → Bool → Bool) (rest : List Entry)
@@ -129,7 +129,7 @@ stays_choice : (o : RenderOptions) (brk : EnclosedBreaks) (y n : Tree) (i : ℕ)
     → StaysOnLine o.width next (enclosed_at o brk y i Flat rest st))
     → (answer_of (look o.width n i Flat st.column (some_pending st.pending)) next ≡ true
     → StaysOnLine o.width next (enclosed_at o brk n i Flat rest st))
-    → StaysOnLine o.width next (if t then noted First (enclosed_at o brk y i Flat rest st) else noted Second
+    → StaysOnLine o.width next (if t then enclosed_choice First (enclosed_at o brk y i Flat rest st) else enclosed_choice Second
     (enclosed_at o brk n i Flat rest st))
 stays_choice o brk y n i next rest st true h f g = stays_noted o.width next First (enclosed_at o brk y i Flat rest st) (f h)
 stays_choice o brk y n i next rest st false h f g = stays_noted o.width next Second (enclosed_at o brk n i Flat rest st) (g h)
@@ -180,7 +180,7 @@ flat_stays o {brk} k (Chosen test y n) i next rest st h =
 
 -- the piece is no text past the width
 abbrev IsWithin : ℕ → Enclosed → Type 0
-IsWithin width p = IsPast width p.piece → ⊥
+IsWithin width p = EndsPast width p.piece → ⊥
 
 -- where the flag is set after a trace from a state, it was set there, and no text ended past the width
 abbrev Keeps : ℕ → State → EnclosedTracing → Type 0
@@ -201,16 +201,16 @@ keeps_text o w (b ∷ bs) st = λ e.
     let below : (commit w st.column).position ≤ o.width = leb-true _ _ parts.1 in
     let text = traces.Text (b ∷ bs) (commit w st.column).position in (
       parts.0,
-      All-cons (IsWithin o.width) (bare (Gap st.column.padding)) (bare text ∷ []) (λ n. n)
-          (All-cons (IsWithin o.width) (bare text) [] (λ n. omega (arith, n, below)) (none_within o.width)),
+      All-cons (IsWithin o.width) (enclosed_alone (Gap st.column.padding)) (enclosed_alone text ∷ []) (λ n. n)
+          (All-cons (IsWithin o.width) (enclosed_alone text) [] (λ n. omega (arith, n, below)) (none_within o.width)),
     )
 
 payload_within : (width g : ℕ) (s : List ℕ) (b : Bool)
-    → All (IsWithin width) (map bare ((if b then Gap g ∷ [] else []) ++ (Source s ∷ [])))
+    → All (IsWithin width) (map enclosed_alone ((if b then Gap g ∷ [] else []) ++ (Source s ∷ [])))
 payload_within width g s true =
-    All-cons (IsWithin width) (bare (Gap g)) (bare (Source s) ∷ []) (λ n. n)
-    (All-cons (IsWithin width) (bare (Source s)) [] (λ n. n) (none_within width))
-payload_within width g s false = All-cons (IsWithin width) (bare (Source s)) [] (λ n. n) (none_within width)
+    All-cons (IsWithin width) (enclosed_alone (Gap g)) (enclosed_alone (Source s) ∷ []) (λ n. n)
+    (All-cons (IsWithin width) (enclosed_alone (Source s)) [] (λ n. n) (none_within width))
+payload_within width g s false = All-cons (IsWithin width) (enclosed_alone (Source s)) [] (λ n. n) (none_within width)
 
 keeps_payload : (o : RenderOptions) (m : Metrics) (s : List ℕ) (st : State) → Keeps o.width st (bare_trace (trace_payload o m s st))
 keeps_payload o m s st = λ e. ((and_parts _ _ e).0, payload_within o.width st.column.padding s m.first_nonempty)
@@ -218,13 +218,13 @@ keeps_payload o m s st = λ e. ((and_parts _ _ e).0, payload_within o.width st.c
 keeps_ending : (width : ℕ) (policy : IndentationPolicy) (k : ℕ) (st : State) → Keeps width st (bare_trace (trace_ending policy k st))
 keeps_ending width Eager k st = λ e. (
   e,
-  All-cons (IsWithin width) (bare Ending) (bare (Indent k false) ∷ []) (λ n. n)
-      (All-cons (IsWithin width) (bare (Indent k false)) [] (λ n. n) (none_within width)),
+  All-cons (IsWithin width) (enclosed_alone Ending) (enclosed_alone (Indent k false) ∷ []) (λ n. n)
+      (All-cons (IsWithin width) (enclosed_alone (Indent k false)) [] (λ n. n) (none_within width)),
 )
 keeps_ending width Deferred k st = λ e. (
   e,
-  All-cons (IsWithin width) (bare Ending) (bare (Indent k false) ∷ []) (λ n. n)
-      (All-cons (IsWithin width) (bare (Indent k false)) [] (λ n. n) (none_within width)),
+  All-cons (IsWithin width) (enclosed_alone Ending) (enclosed_alone (Indent k false) ∷ []) (λ n. n)
+      (All-cons (IsWithin width) (enclosed_alone (Indent k false)) [] (λ n. n) (none_within width)),
 )
 
 keeps_skip : (o : RenderOptions) (k : ℕ) (st : State) (t : Bool)
@@ -250,13 +250,13 @@ keeps_then width st (TracedIn ps u) f h k = keeps_after width st u ps (f u) h (k
 keeps_then width st (StoppedIn ps) f h k = tt
 
 -- a piece that is no text before a trace
-keeps_one : (width : ℕ) (st : State) (p : Piece) (x : EnclosedTracing) → (IsPast width p → ⊥) → Keeps width st x
-    → Keeps width st (after_enclosed (bare p ∷ []) x)
+keeps_one : (width : ℕ) (st : State) (p : Piece) (x : EnclosedTracing) → (EndsPast width p → ⊥) → Keeps width st x
+    → Keeps width st (after_enclosed (enclosed_alone p ∷ []) x)
 keeps_one width st p x n h =
-    keeps_after width st st (bare p ∷ []) x (λ e. (e, All-cons (IsWithin width) (bare p) [] n (none_within width))) h
+    keeps_after width st st (enclosed_alone p ∷ []) x (λ e. (e, All-cons (IsWithin width) (enclosed_alone p) [] n (none_within width))) h
 
 keeps_either : (width : ℕ) (st : State) (t : Bool) (x y : EnclosedTracing) → (t ≡ true → Keeps width st x) → Keeps width st y
-    → Keeps width st (if t then noted First x else noted Second y)
+    → Keeps width st (if t then enclosed_choice First x else enclosed_choice Second y)
 keeps_either width st true x y h k = keeps_one width st (Alternative First) x (λ n. n) (h refl)
 keeps_either width st false x y h k = keeps_one width st (Alternative Second) y (λ n. n) k
 
@@ -350,7 +350,7 @@ pub record BreaksHold (width : ℕ) (brk : EnclosedBreaks) : Type 0 where
   pub keep : BreaksKeep width brk
   pub holds : (d : Tree) (i : ℕ) (m : Mode) (rest : List Entry) (st : State) → Each (Holds width m) (brk d i m rest st)
 
-bare_holds : (width : ℕ) (m : Mode) (p : Piece) → Holds width m (bare p)
+bare_holds : (width : ℕ) (m : Mode) (p : Piece) → Holds width m (enclosed_alone p)
 bare_holds width Break p = (λ n. absurd n, λ n. absurd n)
 bare_holds width Flat p = λ n. absurd n
 
@@ -503,7 +503,7 @@ unfolding enclosed_trace
 trace_holds o d = pieces_hold (Holds o.width Break) (enclosed_by o (size d + 1) d) (holds_by o (size d + 1) d)
 
 -- a text that ends past the width does not stay on its line
-past_width : (width : ℕ) (p : Piece) → IsOnOneLine width p → IsPast width p → ⊥
+past_width : (width : ℕ) (p : Piece) → IsOnOneLine width p → EndsPast width p → ⊥
 past_width width (traces.Text s column) h n = omega (arith, h, n)
 past_width width _ h n = n
 
@@ -515,7 +515,7 @@ groups_broken (BrokenGroup ∷ es) n = groups_broken es n
 groups_broken (Flattened ∷ es) n = tt
 groups_broken (KeptBranch ∷ es) n = groups_broken es n
 
-past_holds : (width : ℕ) (p : Enclosed) → Holds width Break p → IsPast width p.piece → GroupsAreBroken p.around
+past_holds : (width : ℕ) (p : Enclosed) → Holds width Break p → EndsPast width p.piece → GroupsAreBroken p.around
 past_holds width p h n = groups_broken p.around (λ f. past_width width p.piece (h.0 f) n)
 
 pub flat_groups_stay : (o : RenderOptions) (d : Tree)
@@ -523,11 +523,11 @@ pub flat_groups_stay : (o : RenderOptions) (d : Tree)
 flat_groups_stay o d = λ k p l. (trace_holds o d k p l).0
 
 pub past_is_broken : (o : RenderOptions) (d : Tree)
-    → All (λ (p : Enclosed). IsPast o.width p.piece → GroupsAreBroken p.around) (enclosed_pieces (enclosed_trace o d))
+    → All (λ (p : Enclosed). EndsPast o.width p.piece → GroupsAreBroken p.around) (enclosed_pieces (enclosed_trace o d))
 past_is_broken o d =
-    All-weaker (Holds o.width Break) (λ (p : Enclosed). IsPast o.width p.piece → GroupsAreBroken p.around) (past_holds o.width)
+    All-weaker (Holds o.width Break) (λ (p : Enclosed). EndsPast o.width p.piece → GroupsAreBroken p.around) (past_holds o.width)
     (enclosed_pieces (enclosed_trace o d)) (trace_holds o d)
 
 pub kept_stays : (o : RenderOptions) (d : Tree)
-    → All (λ (p : Enclosed). IsInKeptBranch p.around → IsPast o.width p.piece → ⊥) (enclosed_pieces (enclosed_trace o d))
+    → All (λ (p : Enclosed). IsInKeptBranch p.around → EndsPast o.width p.piece → ⊥) (enclosed_pieces (enclosed_trace o d))
 kept_stays o d = λ k p l. (trace_holds o d k p l).1

@@ -34,13 +34,13 @@ pub data EnclosedTracing : Type 0 where
   StoppedIn : List Enclosed → EnclosedTracing
 
 -- a piece with nothing around it
-abbrev pub bare : Piece → Enclosed
-bare piece = record { piece = piece; around = [] }
+abbrev pub enclosed_alone : Piece → Enclosed
+enclosed_alone piece = record { piece = piece; around = [] }
 
 -- a trace of pieces with nothing around them
 abbrev pub bare_trace : Tracing → EnclosedTracing
-bare_trace (Traced ps st) = TracedIn (map bare ps) st
-bare_trace (Stopped ps) = StoppedIn (map bare ps)
+bare_trace (Traced ps st) = TracedIn (map enclosed_alone ps) st
+bare_trace (Stopped ps) = StoppedIn (map enclosed_alone ps)
 
 -- a piece with this around all else that is around it
 abbrev pub put_in : Enclosure → Enclosed → Enclosed
@@ -62,16 +62,16 @@ enclosed_then (TracedIn ps st) next = after_enclosed ps (next st)
 enclosed_then (StoppedIn ps) next = StoppedIn ps
 
 -- an alternative, noted before what it lays
-abbrev pub noted : Side → EnclosedTracing → EnclosedTracing
-noted side x = after_enclosed (bare (Alternative side) ∷ []) x
+abbrev pub enclosed_choice : Side → EnclosedTracing → EnclosedTracing
+enclosed_choice side x = after_enclosed (enclosed_alone (Alternative side) ∷ []) x
 
 -- the first branch of a union if it is kept, and else the second
 abbrev pub enclosed_accept : RenderOptions → Bool → EnclosedTracing → EnclosedTracing → EnclosedTracing
 enclosed_accept o was (TracedIn ps st) other =
-    if st.within && padding_fits o.width (some_pending st.pending) st.column then noted First
+    if st.within && padding_fits o.width (some_pending st.pending) st.column then enclosed_choice First
     (laid_in KeptBranch (TracedIn ps (record st { within = was })))
-    else noted Second other
-enclosed_accept o was (StoppedIn ps) other = noted Second other
+    else enclosed_choice Second other
+enclosed_accept o was (StoppedIn ps) other = enclosed_choice Second other
 
 -- The trace of a break.
 abbrev pub EnclosedBreaks : Type 0
@@ -96,7 +96,7 @@ enclosed_at o brk (t.Flatten d) i m rest st = laid_in Flattened (enclosed_at o b
 enclosed_at o brk (t.BreakOrFlat b f) i m rest st = by_mode m (enclosed_at o brk b i m rest st) (enclosed_at o brk f i m rest st)
 enclosed_at o brk (t.Group d) i m rest st =
     by_mode m
-    (if probe o d i Flat rest st then noted First (laid_in FlatGroup (enclosed_at o brk d i Flat rest st)) else noted Second
+    (if probe o d i Flat rest st then enclosed_choice First (laid_in FlatGroup (enclosed_at o brk d i Flat rest st)) else enclosed_choice Second
     (laid_in BrokenGroup (enclosed_at o brk d i Break rest st)))
     (laid_in FlatGroup (enclosed_at o brk d i Flat rest st))
 enclosed_at o brk (t.Union l r) i m rest st =
@@ -104,12 +104,12 @@ enclosed_at o brk (t.Union l r) i m rest st =
     (enclosed_at o brk l i m rest st)
 enclosed_at o brk (t.PartialUnion l r) i m rest st =
     by_mode m
-    (if probe o l i Break rest st then noted First (enclosed_at o brk l i m rest st) else noted Second
+    (if probe o l i Break rest st then enclosed_choice First (enclosed_at o brk l i m rest st) else enclosed_choice Second
     (enclosed_at o brk r i m rest st))
     (enclosed_at o brk l i m rest st)
 enclosed_at o brk (t.Chosen test y n) i m rest st =
-    if choice_holds test (prospective st.column) i then noted First (enclosed_at o brk y i m rest st)
-    else noted Second (enclosed_at o brk n i m rest st)
+    if choice_holds test (prospective st.column) i then enclosed_choice First (enclosed_at o brk y i m rest st)
+    else enclosed_choice Second (enclosed_at o brk n i m rest st)
 
 -- trees one after another at one indent
 unfoldable pub enclosed_each : RenderOptions → EnclosedBreaks → List Tree → ℕ → Mode → List Entry → State → EnclosedTracing
@@ -121,7 +121,7 @@ enclosed_each o brk (d ∷ ds) i m rest st =
 abbrev pub enclosed_pending :
     RenderOptions → EnclosedBreaks → List Tree → ℕ → Mode → List Entry → State → (State → EnclosedTracing) → EnclosedTracing
 enclosed_pending o brk ps i m rest st next =
-    after_enclosed (bare (Gap st.column.padding) ∷ []) (enclosed_then (enclosed_each o brk ps i m rest (flushed o st)) next)
+    after_enclosed (enclosed_alone (Gap st.column.padding) ∷ []) (enclosed_then (enclosed_each o brk ps i m rest (flushed o st)) next)
 
 -- a break: what is pending comes first
 abbrev pub enclosed_break_with : RenderOptions → EnclosedBreaks → List Tree → EnclosedBreaks
@@ -159,10 +159,10 @@ enclosed_pieces (TracedIn ps st) = ps
 enclosed_pieces (StoppedIn ps) = ps
 
 -- the pieces without what is around them
-abbrev pub pieces_of : List Enclosed → List Piece
-pieces_of ps = map (λ (p : Enclosed). p.piece) ps
+abbrev pub bare_pieces : List Enclosed → List Piece
+bare_pieces ps = map (λ (p : Enclosed). p.piece) ps
 
 -- a trace without what is around its pieces
 abbrev pub without_enclosures : EnclosedTracing → Tracing
-without_enclosures (TracedIn ps st) = Traced (pieces_of ps) st
-without_enclosures (StoppedIn ps) = Stopped (pieces_of ps)
+without_enclosures (TracedIn ps st) = Traced (bare_pieces ps) st
+without_enclosures (StoppedIn ps) = Stopped (bare_pieces ps)

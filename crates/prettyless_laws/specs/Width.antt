@@ -35,9 +35,9 @@ GroupsAreBroken (Flattened ∷ es) = ⊤
 GroupsAreBroken (KeptBranch ∷ es) = GroupsAreBroken es
 
 -- a text that ends past this width
-abbrev pub IsPast : ℕ → Piece → Type 0
-IsPast width (traces.Text s column) = width < column
-IsPast width _ = ⊥
+abbrev pub EndsPast : ℕ → Piece → Type 0
+EndsPast width (traces.Text s column) = width < column
+EndsPast width _ = ⊥
 
 -- in a flat group nothing but a gap, a text that ends within the width, or an alternative is laid: no line ends there
 abbrev pub FlatGroupsStayOnOneLine : Type 0
@@ -49,10 +49,10 @@ FlatGroupsStayOnOneLine =
 abbrev pub TextsPastTheWidthAreBroken : Type 0
 TextsPastTheWidthAreBroken =
     (o : RenderOptions) (d : Tree)
-    → All (λ (p : Enclosed). IsPast o.width p.piece → GroupsAreBroken p.around) (enclosed_pieces (enclosed_trace o d))
+    → All (λ (p : Enclosed). EndsPast o.width p.piece → GroupsAreBroken p.around) (enclosed_pieces (enclosed_trace o d))
 
 -- no text of a first branch that was kept after a trial ends past the width
 abbrev pub KeptBranchesStayWithin : Type 0
 KeptBranchesStayWithin =
     (o : RenderOptions) (d : Tree)
-    → All (λ (p : Enclosed). IsInKeptBranch p.around → IsPast o.width p.piece → ⊥) (enclosed_pieces (enclosed_trace o d))
+    → All (λ (p : Enclosed). IsInKeptBranch p.around → EndsPast o.width p.piece → ⊥) (enclosed_pieces (enclosed_trace o d))

@@ -43,21 +43,21 @@ pub record IsShort (has : Bool) (k : ℕ) (own under : List Task) (sums : List B
   pub small : k + (nodes own + nodes under) < 2 ^ 32
 
 -- Where a probe stands: its own tasks, those of the printer under them, and the line.
-pub record Place : Type 0 where
+pub record ProbePoint : Type 0 where
   pub own : List Task
   pub under : List Task
   pub line : ProbeLine
 
--- a place of these parts
-abbrev pub place : List Task → List Task → ProbeLine → Place
-place own under line = record { own = own; under = under; line = line }
+-- a point of these parts
+abbrev pub probe_point : List Task → List Task → ProbeLine → ProbePoint
+probe_point own under line = record { own = own; under = under; line = line }
 
 -- what a probe by sums has still to read, from a result on
-abbrev pub left_at : {N : Type 0} → (N → Tree) → ℕ → ProbeStep N → Place → ℕ
+abbrev pub left_at : {N : Type 0} → (N → Tree) → ℕ → ProbeStep N → ProbePoint → ℕ
 left_at f width read at = reads_on f true width read at.own (reads_below true width false at.under) at.line.column at.line.pending
 
--- What it costs a probe by sums to go on with nothing, from one place to another, where it has this result.
-pub record GoesOnCosts {N : Type 0} (f : N → Tree) (width : ℕ) (sums : List Below) (read : ProbeStep N) (a b : Place) (old new : ℕ)
+-- What it costs a probe by sums to go on with nothing, from one point to another, where it has this result.
+pub record GoesOnCosts {N : Type 0} (f : N → Tree) (width : ℕ) (sums : List Below) (read : ProbeStep N) (a b : ProbePoint) (old new : ℕ)
     : Type 0 where
   -- No count falls.
   pub rises : old ≤ new

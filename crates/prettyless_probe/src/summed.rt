@@ -7,7 +7,7 @@ ghost use Rattle.prettyless_model.specs.declared.column.Column.{Column};
 ghost use Rattle.prettyless_summary.specs.Summary.{look_by};
 ghost use Rattle.prettyless_probe.specs.Probing.{OneLeft, ReadsAs, nodes_next, pace};
 ghost use Rattle.prettyless_probe.specs.Reads.{read_after, reads_all, reads_below, reads_on};
-ghost use Rattle.prettyless_probe.specs.Costs.{GoesOnCosts, IsShort, PartCosts, left_at, place};
+ghost use Rattle.prettyless_probe.specs.Costs.{GoesOnCosts, IsShort, PartCosts, left_at, probe_point};
 ghost use Rattle.prettyless_probe.specs.Stack.{IsCursor, Task, in_break, make_task, nodes, stack_of, task, tasks_fit, unread};
 ghost use Rattle.prettyless_probe.specs.Sums.{AreSums, HaveSum};
 
@@ -91,8 +91,8 @@ fn read_on<N: Walk>(
         < 1 + 2 * (nodes (stack_of N.tree stack.old) + nodes (unread N.tree commands.now below.old)) }
     ensures shorter { length (unread N.tree commands.now below.new) ≤ length (unread N.tree commands.now below.old) }
     ensures visits { GoesOnCosts N.tree width commands.now.sums.items result
-        (place (stack_of N.tree stack.old) (unread N.tree commands.now below.old) line.old)
-        (place (stack_of N.tree stack.new) (unread N.tree commands.now below.new) line.new) probes.old probes.new }
+        (probe_point (stack_of N.tree stack.old) (unread N.tree commands.now below.old) line.old)
+        (probe_point (stack_of N.tree stack.new) (unread N.tree commands.now below.new) line.new) probes.old probes.new }
 {
     if let Some(next) = stack.pop() {
         return ProbeStep::Descend(next.indent, next.mode, next.node);
@@ -130,7 +130,7 @@ fn read_rest<N: Walk>(
     ensures visits { PartCosts result ((probes.old ≤ 2 ^ 64 - 1) × IsShort N.HAS_SUMMARIES (nodes_next N.tree first)
         (stack_of N.tree stack.old) (unread N.tree commands.now cursor) commands.now.sums.items) 0
         (nodes_next N.tree first + (nodes (stack_of N.tree stack.old) + nodes (unread N.tree commands.now cursor)))
-        (left_at N.tree width first (place (stack_of N.tree stack.old) (unread N.tree commands.now cursor) start))
+        (left_at N.tree width first (probe_point (stack_of N.tree stack.old) (unread N.tree commands.now cursor) start))
         probes.old probes.new }
 {
     let mut line = start;
