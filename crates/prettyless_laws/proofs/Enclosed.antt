@@ -23,13 +23,13 @@ use Rattle.prettyless_laws.specs.Enclosed.{enclosed_end_with, enclosed_finish, e
 
 -- ---- traces without what is around their pieces
 
-bare_pieces : (ps : List Piece) → bare_pieces (map enclosed_alone ps) ≡ ps
-bare_pieces [] = refl
-bare_pieces (p ∷ ps) = ap (λ (qs : List Piece). p ∷ qs) (bare_pieces ps)
+alone_pieces : (ps : List Piece) → bare_pieces (map enclosed_alone ps) ≡ ps
+alone_pieces [] = refl
+alone_pieces (p ∷ ps) = ap (λ (qs : List Piece). p ∷ qs) (alone_pieces ps)
 
 without_bare : (x : Tracing) → without_enclosures (bare_trace x) ≡ x
-without_bare (Traced ps st) = ap (λ (qs : List Piece). Traced qs st) (bare_pieces ps)
-without_bare (Stopped ps) = ap Stopped (bare_pieces ps)
+without_bare (Traced ps st) = ap (λ (qs : List Piece). Traced qs st) (alone_pieces ps)
+without_bare (Stopped ps) = ap Stopped (alone_pieces ps)
 
 laid_pieces : (e : Enclosure) (ps : List Enclosed) → bare_pieces (map (put_in e) ps) ≡ bare_pieces ps
 laid_pieces e [] = refl
