@@ -7,8 +7,8 @@ use Rattle.prettyless.proofs.SpacedTexts.{texts_shown}
 use Rattle.example_formatters.specs.Documents.{document_of}
 use Rattle.example_formatters.specs.Expression.{Expression, HasSmallNumbers}
 use Rattle.example_formatters.specs.Reader.{expression_at, expression_in}
-use Rattle.example_formatters.specs.Tokens.{tokens_of}
 use Rattle.example_formatters.specs.Written.{layout_at}
+use Rattle.example_formatters.proofs.ExpressionTokens.{tokens_of}
 use Rattle.example_formatters.proofs.Lexed.{expression_lexed}
 use Rattle.example_formatters.proofs.Reading.{read_alone}
 use Rattle.example_formatters.proofs.Texts.{document_has}

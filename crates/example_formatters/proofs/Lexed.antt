@@ -11,7 +11,8 @@ use Rattle.prettyless.specs.Spelling.{is_blank_byte}
 use Rattle.prettyless.specs.Shows.{IsBlank, IsSpaced}
 use Rattle.example_formatters.specs.Expression.{Expression, HasSmallNumbers, number, negation, sum, product}
 use Rattle.example_formatters.specs.Lexer.{begins_with_digit, with_digit, tokens_in}
-use Rattle.example_formatters.specs.Tokens.{opening_token, closing_token, plus_token, times, in_parentheses, tokens_of}
+use Rattle.example_formatters.specs.Tokens.{opening_token, closing_token, plus_token, times}
+use Rattle.example_formatters.proofs.ExpressionTokens.{in_parentheses, tokens_of}
 
 blank_is_no_digit : (b : ℕ) → is_blank_byte b ≡ true → is_ascii_digit b ≡ false
 blank_is_no_digit b e = grind (arith, nat_tests)

@@ -9,7 +9,8 @@ use Rattle.std.proofs.lemmas.Str.Parse.{numerals_by_value, tells_all_ascii_digit
 use Rattle.example_formatters.specs.Expression.{Expression, HasSmallNumbers, number, negation, sum, product}
 use Rattle.example_formatters.specs.Reader.{ReadExpression, and_then_read, is_numeral, read_expression, read_right, read_closing}
 use Rattle.example_formatters.specs.Reader.{whole_expression, expression_at}
-use Rattle.example_formatters.specs.Tokens.{closing_token, plus_token, times, in_parentheses, tokens_of}
+use Rattle.example_formatters.specs.Tokens.{closing_token, plus_token, times}
+use Rattle.example_formatters.proofs.ExpressionTokens.{in_parentheses, tokens_of}
 use Rattle.example_formatters.proofs.Lexed.{followed}
 
 digits_are : (s : List ℕ) → AllDigits 10 s → 0 < length s → is_numeral s ≡ true

@@ -11,7 +11,8 @@ use Rattle.prettyless.specs.Tree.{Tree, Text}
 use Rattle.prettyless.proofs.ShownItems.{append_texts, as_string_shows, group_shows, line_shows, nest_shows, space_shows}
 use Rattle.example_formatters.specs.Documents.{operation_of, document_of}
 use Rattle.example_formatters.specs.Expression.{Expression, HasSmallNumbers, number, negation, sum, product}
-use Rattle.example_formatters.specs.Tokens.{opening_token, closing_token, plus_token, times, minus, in_parentheses, tokens_of}
+use Rattle.example_formatters.specs.Tokens.{opening_token, closing_token, plus_token, times, minus}
+use Rattle.example_formatters.proofs.ExpressionTokens.{in_parentheses, tokens_of}
 
 -- a tree that shows one text
 one_text : (x : Tree) (s : List ℕ) → shows x (Shown s ∷ []) → HasTexts x (s ∷ [])

@@ -8,7 +8,7 @@ use Rattle.json_formatter.specs.ByValue.{end_column, filled_after, filled_lines,
 use Rattle.json_formatter.specs.ByValue.{new_line}
 use Rattle.json_formatter.specs.Documents.{is_json_sign, may_fill, next_is}
 use Rattle.json_formatter.specs.Flat.{flat_line, flat_width}
-use Rattle.json_formatter.specs.Gaps.{indent_at, laid_from}
+use Rattle.json_formatter.specs.Gaps.{indent_at}
 use Rattle.json_formatter.specs.Values.{PiecedValue as Value, alone, array, object, PiecedItems as Items, no_items, item}
 use Rattle.json_formatter.specs.Values.{pieced_items as spelled_items, more_pieced_items as more_items}
 use Rattle.json_formatter.specs.Values.{AreFormedPiecedItems as AreFormedItems}
@@ -16,6 +16,7 @@ use Rattle.json_formatter.specs.declared.gaps.Joint.TheVariants as joint
 use Rattle.json_formatter.specs.declared.gaps.Joint.{Joint}
 use Rattle.json_formatter.specs.declared.gaps.State.{State}
 use Rattle.json_formatter.specs.declared.style.Style.{Style}
+use Rattle.json_formatter.proofs.GapsFrom.{laid_from}
 use Rattle.json_formatter.proofs.GapsSteps.{Lays, close_next, closing_line, fill_first, items_comma, lays_after, lays_same, line_first}
 use Rattle.json_formatter.proofs.GapsSteps.{outside, word_fits, word_next}
 use Rattle.json_formatter.proofs.GapsWords.{IsWord, word_begins, word_formed}

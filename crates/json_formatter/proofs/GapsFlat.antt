@@ -14,13 +14,14 @@ use Rattle.json_formatter.specs.Values.{pieced_items_depth as items_depth, piece
 use Rattle.json_formatter.specs.Values.{IsFormedPieced as IsFormed, AreFormedPiecedItems as AreFormedItems}
 use Rattle.json_formatter.specs.Values.{AreFormedPiecedMembers as AreFormedMembers}
 use Rattle.json_formatter.specs.Flat.{blank_if, flat_line}
-use Rattle.json_formatter.specs.Gaps.{flat_gap, flat_joint, gap_bytes, laid_from, space_if}
+use Rattle.json_formatter.specs.Gaps.{flat_gap, flat_joint, gap_bytes, space_if}
 use Rattle.json_formatter.specs.declared.gaps.Joint.{Joint}
 use Rattle.json_formatter.specs.declared.gaps.Joint.TheVariants as joint
 use Rattle.json_formatter.specs.declared.gaps.State.{State}
 use Rattle.json_formatter.specs.declared.style.Style.{Style}
 use Rattle.json_formatter.proofs.FlatTrees.{line_joined}
 use Rattle.json_formatter.proofs.GapsAhead.{one_less_open}
+use Rattle.json_formatter.proofs.GapsFrom.{laid_from}
 use Rattle.json_formatter.proofs.GapsPassed.{HasRoom, Walks, both_stepped, items_pass, members_pass, steps}
 use Rattle.json_formatter.proofs.ValueTrees.{IsPlain, formed_plain, key_formed, plain_lexeme}
 

@@ -17,7 +17,7 @@ use Rattle.prettyless_model.specs.Spaces.{spaces}
 use Rattle.json_formatter.specs.BlankLines.{ends_line, first_gap, kept_from, kept_gap, with_blank_lines, with_kept_lines}
 use Rattle.json_formatter.specs.ByValue.{new_line}
 use Rattle.json_formatter.specs.Documents.{bounded, closes, greatest_width, is_json_sign, lexeme_of, opens}
-use Rattle.json_formatter.specs.Gaps.{gap_before, gap_bytes, laid_from, spaced_from, start_state, state_after}
+use Rattle.json_formatter.specs.Gaps.{gap_before, gap_bytes, spaced_from, start_state, state_after}
 use Rattle.json_formatter.specs.Kept.{kept_of, laid_left}
 use Rattle.json_formatter.specs.Pieces.{begins_line, lexemes_of_pieces, text_pieces, pieces_of}
 use Rattle.json_formatter.specs.Values.{line_end_if}
@@ -27,6 +27,7 @@ use Rattle.json_formatter.specs.declared.gaps.Gap.TheVariants as gap
 use Rattle.json_formatter.specs.declared.gaps.State.{State}
 use Rattle.json_formatter.specs.declared.spelling.Spelling.{Spelling}
 use Rattle.json_formatter.specs.declared.style.Style.{Style}
+use Rattle.json_formatter.proofs.GapsFrom.{laid_from}
 use Rattle.json_formatter.proofs.LaidAgain.{laid_again}
 use Rattle.json_formatter.proofs.Pieces.{compact_pieces, pieces_lexemes, pieces_ordered}
 use Rattle.json_formatter.proofs.Respelled.{HaveNoReturns, end_gap, feeds_respelled, first_line_end, gap_no_return, kept_no_returns}

@@ -9,7 +9,7 @@ use Rattle.json_formatter.specs.ByValue.{filled_lines, flat, flat_items, flat_me
 use Rattle.json_formatter.specs.ByValue.{value_width}
 use Rattle.json_formatter.specs.Documents.{bounded, closes, stops}
 use Rattle.json_formatter.specs.Flat.{flat_line}
-use Rattle.json_formatter.specs.Gaps.{indent_at, laid_from, start_state}
+use Rattle.json_formatter.specs.Gaps.{indent_at, start_state}
 use Rattle.json_formatter.specs.Pieces.{text_pieces}
 use Rattle.json_formatter.specs.Spelling.{with_spelling}
 use Rattle.json_formatter.specs.Values.{PiecedValue as Value, alone, array, object, PiecedItems as Items, no_items, item}
@@ -26,6 +26,7 @@ use Rattle.json_formatter.proofs.Closing.{all_items_width, all_width, blank, bla
 use Rattle.json_formatter.proofs.GapsAhead.{items_ahead, items_all_fill, members_ahead}
 use Rattle.json_formatter.proofs.GapsFilled.{numbers_lay}
 use Rattle.json_formatter.proofs.GapsFlat.{items_on_line, members_on_line, most}
+use Rattle.json_formatter.proofs.GapsFrom.{laid_from}
 use Rattle.json_formatter.proofs.GapsLists.{IsList, curly, list_lays, square}
 use Rattle.json_formatter.proofs.GapsMembers.{FirstLays, MoreItemsLay, MoreMembersLay, ValueLays, closed_items, closed_members}
 use Rattle.json_formatter.proofs.GapsMembers.{comma_lays, item_lays, member_lays}

@@ -6,12 +6,13 @@ use Rattle.json_formatter.specs.ByValue.{fits_width}
 use Rattle.json_formatter.specs.Documents.{closes, is_json_sign, opens, stops}
 use Rattle.json_formatter.specs.Values.{bracket}
 use Rattle.json_formatter.specs.Flat.{piece_columns}
-use Rattle.json_formatter.specs.Gaps.{all_fill, flat_joint, laid_from, list_fits, open_at}
+use Rattle.json_formatter.specs.Gaps.{all_fill, flat_joint, list_fits, open_at}
 use Rattle.json_formatter.specs.declared.gaps.Joint.TheVariants as joint
 use Rattle.json_formatter.specs.declared.gaps.State.{State}
 use Rattle.json_formatter.specs.declared.style.Style.{Style}
 use Rattle.json_formatter.proofs.GapsAhead.{IsReadAhead}
 use Rattle.json_formatter.proofs.GapsFlat.{LaysOnLine, most, on_line}
+use Rattle.json_formatter.proofs.GapsFrom.{laid_from}
 use Rattle.json_formatter.proofs.GapsSteps.{Lays, comma_before, lays_after, outside, rested}
 
 -- a bracket that opens a list, and is kept broken or not

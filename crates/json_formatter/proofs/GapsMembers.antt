@@ -4,7 +4,7 @@ use Rattle.json.specs.Word.{head}
 use Rattle.prettyless_model.specs.Column.{saturating_add}
 use Rattle.prettyless_model.specs.Metrics.{text_width}
 use Rattle.json_formatter.specs.ByValue.{after_key, item_comma, item_lines, laid_value, member_comma, member_lines, new_line}
-use Rattle.json_formatter.specs.Gaps.{indent_at, laid_from}
+use Rattle.json_formatter.specs.Gaps.{indent_at}
 use Rattle.json_formatter.specs.Values.{PiecedValue as Value, PiecedItems as Items, item, PiecedMembers as Members, member}
 use Rattle.json_formatter.specs.Values.{pieced as spelled, pieced_items as spelled_items, more_pieced_items as more_items}
 use Rattle.json_formatter.specs.Values.{pieced_members as spelled_members, more_pieced_members as more_members}
@@ -13,6 +13,7 @@ use Rattle.json_formatter.specs.Values.{IsFormedPieced as IsFormed}
 use Rattle.json_formatter.specs.declared.gaps.Joint.TheVariants as joint
 use Rattle.json_formatter.specs.declared.style.Style.{Style}
 use Rattle.json_formatter.proofs.GapsFlat.{most}
+use Rattle.json_formatter.proofs.GapsFrom.{laid_from}
 use Rattle.json_formatter.proofs.GapsSteps.{Lays, closing_line, comma_before, items_comma, lays_after, lays_same, lays_then, line_first}
 use Rattle.json_formatter.proofs.GapsSteps.{members_comma, outside, rested, space_first, word_next}
 use Rattle.json_formatter.proofs.GapsWords.{BeginsPlainly, IsWord, key_word, value_begins, word_begins}

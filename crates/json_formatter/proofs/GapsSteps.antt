@@ -7,7 +7,7 @@ use Rattle.prettyless_model.specs.Column.{saturating_add}
 use Rattle.prettyless_model.specs.Metrics.{text_width}
 use Rattle.json_formatter.specs.ByValue.{inner, item_comma, member_comma, new_line}
 use Rattle.json_formatter.specs.Documents.{closes, is_json_sign, next_is, opens}
-use Rattle.json_formatter.specs.Gaps.{comma_column, indent_at, laid_from}
+use Rattle.json_formatter.specs.Gaps.{comma_column, indent_at}
 use Rattle.json_formatter.specs.Values.{PiecedItems as Items, no_items, item, PiecedMembers as Members, no_members, member}
 use Rattle.json_formatter.specs.Values.{more_pieced_items as more_items, more_pieced_members as more_members}
 use Rattle.json_formatter.specs.declared.gaps.Joint.{Joint}
@@ -16,6 +16,7 @@ use Rattle.json_formatter.specs.declared.gaps.State.{State}
 use Rattle.json_formatter.specs.declared.style.Style.{Style}
 use Rattle.json_formatter.proofs.GapsAhead.{one_less_open}
 use Rattle.json_formatter.proofs.GapsFlat.{most}
+use Rattle.json_formatter.proofs.GapsFrom.{laid_from}
 use Rattle.json_formatter.proofs.GapsWords.{BeginsPlainly, IsWord}
 
 -- ---- states

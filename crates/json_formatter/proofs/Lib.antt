@@ -8,6 +8,7 @@ pub mod FlatTrees
 pub mod GapsAhead
 pub mod GapsFilled
 pub mod GapsFlat
+pub mod GapsFrom
 pub mod GapsKept
 pub mod GapsLaid
 pub mod GapsLists

@@ -2,7 +2,7 @@
 use Rattle.std.specs.Prelude.{ℕ, ◌+◌, ◌-◌, ◌*◌, ◌^◌, Bool, false, not, ◌&&◌, ◌||◌, nat_le, min, List, [], ◌∷◌, Option, Some, None}
 use Rattle.std.specs.Prelude.{if◌then◌else◌}
 use Rattle.json.specs.Ascii as ascii
-use Rattle.json_lexemes.specs.SpacedLexemes.{Spaced, after_gap, put_together}
+use Rattle.json_lexemes.specs.SpacedLexemes.{Spaced, after_gap}
 use Rattle.prettyless_model.specs.Column.{saturating_add}
 use Rattle.prettyless_model.specs.Metrics.{text_width}
 use Rattle.json_formatter.specs.ByValue.{new_line}
@@ -156,10 +156,6 @@ abbrev pub spaced_from : Style → State → List (List ℕ) → List Spaced
 spaced_from style st [] = []
 spaced_from style st (s ∷ ss) =
     after_gap (gap_bytes (gap_before style st s ss)) (lexeme_of s) ∷ spaced_from style (state_after style st s ss) ss
-
--- their bytes
-abbrev pub laid_from : Style → State → List (List ℕ) → List ℕ
-laid_from style st ss = put_together (spaced_from style st ss)
 
 -- before the first piece
 abbrev pub start_state : State

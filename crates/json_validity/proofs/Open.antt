@@ -4,10 +4,15 @@ use Rattle.std.proofs.Common.{reverse, Option, Some, None, option_and_then, refl
 use Rattle.std.proofs.lemmas.List.{reverse-append}
 use Rattle.json.specs.Token.{Token}
 use Rattle.json.specs.Json.{skip_value}
-use Rattle.json_validity.specs.Open.{after_list, after_lists, ComesNext, BeginsWith}
+use Rattle.json_validity.specs.Open.{after_list, ComesNext, BeginsWith}
 use Rattle.json_validity.specs.declared.bracket.Bracket.{Bracket}
 use Rattle.json_validity.specs.declared.bracket.Next.TheVariants as next
 use Rattle.json_validity.specs.declared.value.Begun.TheVariants as begun
+
+-- after lists that are open, each in the next one: what is in the first may nest so deep
+unfoldable pub after_lists : ℕ → List Bracket → List Token → Option (List Token)
+after_lists depth [] ts = Some ts
+after_lists depth (b ∷ bs) ts = option_and_then (after_lists (suc depth) bs) (after_list b depth ts)
 
 pub reverse_push : (bs : List Bracket) (b : Bracket) → reverse (bs ++ b ∷ []) ≡ b ∷ reverse bs
 reverse_push bs b = reverse-append bs (b ∷ [])

@@ -1,5 +1,5 @@
--- What is left of the tokens after lists that are open.
-use Rattle.std.specs.Prelude.{◌≡◌, ℕ, suc, List, [], ◌∷◌, Option, Some, None, option_and_then}
+-- What is left of the tokens after a list that is open.
+use Rattle.std.specs.Prelude.{◌≡◌, ℕ, suc, List, Option, Some, None, option_and_then}
 use Rattle.json.specs.Token.{Token}
 use Rattle.json.specs.Json.{skip_value}
 use Rattle.json.specs.Reads.{skip_items, skip_members}
@@ -14,11 +14,6 @@ use Rattle.json_validity.specs.declared.value.Begun.TheVariants as begun
 abbrev pub after_list : Bracket → ℕ → List Token → Option (List Token)
 after_list Array depth ts = skip_items depth ts
 after_list Object depth ts = skip_members depth ts
-
--- after lists that are open, each in the next one: what is in the first may nest so deep
-unfoldable pub after_lists : ℕ → List Bracket → List Token → Option (List Token)
-after_lists depth [] ts = Some ts
-after_lists depth (b ∷ bs) ts = option_and_then (after_lists (suc depth) bs) (after_list b depth ts)
 
 -- what comes next in a list that is open, and the tokens after it
 abbrev pub ComesNext : Bracket → List Token → Next → List Token → Type 0

@@ -3,5 +3,5 @@
 pub use prettyless_alloc::{law_lists, law_spaced};
 pub use prettyless_laws::{
     law_deferred, law_endings, law_flat_group, law_parts, law_probe, law_regroup, law_texts,
-    law_total, rows,
+    law_total, law_width, rows,
 };

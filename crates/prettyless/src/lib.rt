@@ -32,4 +32,4 @@ pub use prettyless_sink::fmt_write::FmtWrite;
 pub use prettyless_sink::io_write::IoWrite;
 pub use prettyless_sink::render::Render;
 pub use prettyless_sink::text_writer::{OpaqueWriter, TextWriter};
-pub use prettyless_sink::visits::Visits;
+pub use prettyless_sink::visits::{RenderCost, Visits};

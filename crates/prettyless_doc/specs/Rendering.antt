@@ -6,7 +6,7 @@ use Rattle.prettyless_model.specs.Counts.{laid_nodes, laid_probes}
 use Rattle.prettyless_model.specs.Layout.{layout}
 use Rattle.prettyless_model.specs.Tree.{Tree, size, probed}
 use Rattle.prettyless_model.specs.declared.options.RenderOptions.{RenderOptions}
-use Rattle.prettyless_printer.specs.Linear.{IsLinearBound, IsLinear}
+use Rattle.prettyless_printer.specs.Linear.{BoundedByTable, IsLinearBound, IsLinear}
 use Rattle.prettyless_printer.specs.Renders.{Rendered, RendersKnown}
 use Rattle.prettyless_sink.specs.Sink.{IfKnown}
 use Rattle.prettyless_sink.specs.declared.error.RenderError.{RenderError}
@@ -39,18 +39,26 @@ pub record RendersDocInto {A E : Type 0} (o : RenderOptions) (d : Tree) (fails :
   -- `Ok`, where the bytes are known: what was appended has the document's content.
   pub content : IfOk result (λ _. AppendsKnownContent d old new)
 
--- The visits of a render of the tree d, whose counts are v before and w after.
-pub record CountsVisits {A E : Type 0} (o : RenderOptions) (d : Tree) (v w : Visits) (result : Result A E) : Type 0 where
+-- The visits of a render of the tree d, whose counts are v before and w after. So many tables were refused memory.
+pub record CountsVisits {A E : Type 0} (o : RenderOptions) (d : Tree) (refused : ℕ) (v w : Visits) (result : Result A E) : Type 0 where
   -- No count falls.
-  pub rise : (v.printer ≤ w.printer) × (v.probes ≤ w.probes) × (v.refused ≤ w.refused)
+  pub rise : (v.printer ≤ w.printer) × (v.probes ≤ w.probes)
   -- Without line suffixes the printer visits each node at most once, whatever the answer.
   pub printer : suffix_depth d ≡ 0 → w.printer ≤ v.printer + size d
   -- Without line suffixes each group and partial union starts one probe, which visits each node at most once.
   pub probes : suffix_depth d ≡ 0 → w.probes ≤ v.probes + size d * probed d
   -- Where a table bounds the probes of the document, and none was refused memory, probes visit at most sixteen nodes for
   -- each node, and a thousand, whatever the answer: so all visits are linear in the document.
-  pub few : IsLinear d → w.refused ≡ 0 → IsLinearBound 16 1000 (size d) v w
+  pub few : IsLinear d → refused ≡ 0 → IsLinearBound 16 1000 (size d) v w
   -- `Ok`: the printer visits at least the nodes that the layout lays, up to the greatest count.
   pub laid : OnOk result (min (v.printer + laid_nodes o d) (2 ^ 64 - 1) ≤ w.printer)
   -- `Ok`: the probes visit at least one node for each probe that the layout needs, up to the greatest count.
   pub asked : OnOk result (min (v.probes + laid_probes o d) (2 ^ 64 - 1) ≤ w.probes)
+
+-- The same of a render over a table of all nodes. It is so of the number of tables that were refused memory in this render.
+pub record CountsVisitsOverTable {A E : Type 0} (o : RenderOptions) (d : Tree) (v w : Visits) (result : Result A E) : Type 0 where
+  -- So many tables were refused memory.
+  pub refused : ℕ
+  pub counts : CountsVisits o d refused v w result
+  -- Where none was, probes visit at most two nodes for each node of a linear document of at most 1,048,576.
+  pub twice : BoundedByTable d refused v w

@@ -1,11 +1,10 @@
 //! Renders of a document.
-ghost use Rattle.std.specs.Prelude.{◌≡◌, ⊤};
+ghost use Rattle.std.specs.Prelude.{◌≡◌, ◌≤◌, ⊤};
 ghost use Rattle.std.specs.IoError.{error_kind};
 ghost use Rattle.std.specs.declared.io.ErrorKind.TheVariants.{Other};
 ghost use Rattle.prettyless_model.specs.Options.{options_at};
-ghost use Rattle.prettyless_printer.specs.Linear.{BoundedByTable};
 ghost use Rattle.prettyless_doc.specs.DocTree.{tree_of};
-ghost use Rattle.prettyless_doc.specs.Rendering.{CountsVisits, RendersDoc, RendersDocInto};
+ghost use Rattle.prettyless_doc.specs.Rendering.{CountsVisits, CountsVisitsOverTable, RendersDoc, RendersDocInto};
 
 use crate::doc::{Doc, DocPtr};
 use prettyless_model::options::RenderOptions;
@@ -15,7 +14,7 @@ use prettyless_sink::fmt_write::FmtWrite;
 use prettyless_sink::io_write::IoWrite;
 use prettyless_sink::render::Render;
 use prettyless_sink::text_writer::TextWriter;
-use prettyless_sink::visits::Visits;
+use prettyless_sink::visits::{RenderCost, Visits};
 use std::alloc::Global;
 use std::{fmt, io};
 
@@ -42,30 +41,32 @@ impl<'a, T: DocPtr<'a>> Doc<'a, T> {
         ensures { RendersDoc options (tree_of T.tree self.now) (W.document_errors out.new)
             (W.lender out.old) (W.lender out.new) (W.bytes out.old) (W.bytes out.new) (W.failures out.old) (W.failures out.new) result }
     {
-        self.render_raw_observed_with(alloc, options, out, &mut Visits::default())
+        self.render_raw_observed_with(alloc, options, out, &mut RenderCost::default())
     }
 
-    /// Renders to a sink as `render_raw_with` does, and adds to `visits` how many nodes the printer and its probes visit,
-    /// also where it fails. Take it to see what a render costs: it takes no more time or memory than that render.
+    /// Renders to a sink as `render_raw_with` does, and adds to `cost` how many nodes the printer and its probes visit, and
+    /// how many tables were refused memory, also where it fails. Take it to see what a render costs: it takes no more time
+    /// or memory than that render.
     ///
-    /// The counts have the bounds of `render_raw_counted_with`, but that of two visits a node.
+    /// The visits have the bounds of `render_raw_counted_with`, but that of two visits a node.
     ///
     /// ```
-    /// let (options, mut visits) = (RenderOptions::new(80), Visits::default());
-    /// doc.render_raw_observed_with(alloc, options, &mut FmtWrite::new(&mut text), &mut visits)?; // `text` grew by the layout
+    /// let (options, mut cost) = (RenderOptions::new(80), RenderCost::default());
+    /// doc.render_raw_observed_with(alloc, options, &mut FmtWrite::new(&mut text), &mut cost)?; // `text` grew by the layout
     /// ```
     pub fn render_raw_observed_with<W: Render>(
         &self,
         alloc: Global,
         options: RenderOptions,
         out: &mut W,
-        visits: &mut Visits,
+        cost: &mut RenderCost,
     ) -> Result<(), RenderError<W::Error>>
         ensures rendered { RendersDoc options (tree_of T.tree self.now) (W.document_errors out.new)
             (W.lender out.old) (W.lender out.new) (W.bytes out.old) (W.bytes out.new) (W.failures out.old) (W.failures out.new) result }
-        ensures counts { CountsVisits options (tree_of T.tree self.now) visits.old visits.new result }
+        ensures counts { CountsVisits options (tree_of T.tree self.now) cost.new.refused cost.old.visits cost.new.visits result }
+        ensures refused { cost.old.refused ≤ cost.new.refused }
     {
-        render::render(alloc, self, options, out, visits)
+        render::render(alloc, self, options, out, cost)
     }
 
     /// Renders to a sink as `render_raw_with` does, and adds to `visits` how many nodes the printer and its probes visit,
@@ -80,7 +81,7 @@ impl<'a, T: DocPtr<'a>> Doc<'a, T> {
     ///
     /// Take one that has no choice by column or nesting either, and fewer than 2^32 - 1 nodes. Then probes visit at most
     /// sixteen nodes for each of its nodes, and a thousand. Of at most 1,048,576 nodes they visit two for each. That
-    /// holds where no table was refused memory, which `visits` counts too, and where the printer's count stays below the
+    /// holds where no table was refused memory, which the other call counts, and where the printer's count stays below the
     /// greatest `u64`.
     ///
     /// After `Ok` the printer has visited at least the nodes that the layout lays. Its probes have visited at least one
@@ -100,10 +101,15 @@ impl<'a, T: DocPtr<'a>> Doc<'a, T> {
     ) -> Result<(), RenderError<W::Error>>
         ensures rendered { RendersDoc options (tree_of T.tree self.now) (W.document_errors out.new)
             (W.lender out.old) (W.lender out.new) (W.bytes out.old) (W.bytes out.new) (W.failures out.old) (W.failures out.new) result }
-        ensures counts { CountsVisits options (tree_of T.tree self.now) visits.old visits.new result }
-        ensures twice { BoundedByTable (tree_of T.tree self.now) visits.old visits.new }
+        ensures counts { CountsVisitsOverTable options (tree_of T.tree self.now) visits.old visits.new result }
     {
-        render::render_over_table(alloc, self, options, out, visits)
+        let mut cost = RenderCost {
+            visits: *visits,
+            refused: 0,
+        };
+        let result = render::render_over_table(alloc, self, options, out, &mut cost);
+        *visits = cost.visits;
+        result
     }
 
     /// Renders to a sink at this width, in columns, as `render_raw_with` does by `RenderOptions::new(width)`: with the same

@@ -32,16 +32,16 @@ use Rattle.prettyless_laws.specs.FlatLines.{IsOnOneLine, IsNoAlternative, IsTrac
 abbrev Fits : RenderOptions → Tree → ℕ → (Column → Bool → Bool) → State → Type 0
 Fits o d i next st = answer_of (look o.width d i Flat st.column (some_pending st.pending)) next ≡ true
 
-some_pending-more : (ps : List Tree) (d : Tree) → some_pending (ps ++ d ∷ []) ≡ true
+pub some_pending-more : (ps : List Tree) (d : Tree) → some_pending (ps ++ d ∷ []) ≡ true
 some_pending-more [] d = refl
 some_pending-more (p ∷ ps) d = refl
 
-none_pending : (ps : List Tree) → not (some_pending ps) ≡ true → ps ≡ []
+pub none_pending : (ps : List Tree) → not (some_pending ps) ≡ true → ps ≡ []
 none_pending [] e = refl
 none_pending (p ∷ ps) e = absurd (cc)
 
 -- a look that goes on by a test, or answers no
-only_on : (t : Bool) (c : Column) (p : Bool) (next : Column → Bool → Bool) → answer_of (if t then GoesOn c p else Answers false) next ≡ true
+pub only_on : (t : Bool) (c : Column) (p : Bool) (next : Column → Bool → Bool) → answer_of (if t then GoesOn c p else Answers false) next ≡ true
     → (t ≡ true) × (next c p ≡ true)
 only_on true c p next e = (refl, e)
 only_on false c p next e = absurd (cc)

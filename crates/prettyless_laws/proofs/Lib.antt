@@ -9,8 +9,10 @@ pub mod Sequences
 pub mod Lists
 pub mod TotalTrees
 pub mod Alike
-pub mod Widths
+pub mod OneWidth
 pub mod Owed
 pub mod Sound
 pub mod WrittenOut
 pub mod Readings
+pub mod Enclosed
+pub mod WithinWidth

@@ -8,3 +8,5 @@ pub mod TotalTrees
 pub mod Trace
 pub mod Traced
 pub mod Rows
+pub mod Enclosed
+pub mod Width

@@ -1,5 +1,5 @@
 -- What it is for a small document to have these pieces as its trace, to show these items, and to be laid by its parts.
-use Rattle.std.specs.Prelude.{◌≡◌, ℕ, ◌<◌, pos, List, [], ◌∷◌, ◌++◌, codes, ⊤}
+use Rattle.std.specs.Prelude.{◌≡◌, ℕ, ◌<◌, pos, Bool, true, false, List, [], ◌∷◌, ◌++◌, codes, filter, ⊤}
 use Prim.Native.String.{String}
 use Rattle.prettyless_model.specs.Options.{options_at}
 use Rattle.prettyless_model.specs.Tree as t
@@ -12,6 +12,7 @@ use Rattle.prettyless_laws.specs.Parts.{IsInline, flat_bytes, flat_columns}
 use Rattle.prettyless_model.specs.Rows.{IsLaidAs, accent, deferred_at, in_turn, row_line, row_text}
 use Rattle.prettyless_model.specs.Shows.{Item, Shown, Mark, Late, apart, ended, loose, shows, AreShown, HasTexts}
 use Rattle.prettyless_laws.specs.Trace.{Piece, Text, Complete, Partial, trace}
+use Rattle.prettyless_laws.specs.Enclosed.{Enclosure, Enclosed, enclosed_trace, enclosed_pieces}
 
 -- ---- traces
 
@@ -30,6 +31,24 @@ text_piece s column = Text (codes s) column
 -- two texts with an empty line between them
 abbrev pub with_empty_line : Tree
 with_empty_line = Nest (pos 2) (in_turn (row_text "aaa") (HardLine ∷ HardLine ∷ row_text "bbb" ∷ []))
+
+-- ---- what is around the texts of a trace
+
+-- a text piece that is ASCII, and what is around it
+abbrev pub text_in : List Enclosure → String → ℕ → Enclosed
+text_in around s column = record { piece = text_piece s column; around = around }
+
+abbrev pub is_text : Piece → Bool
+is_text (Text s column) = true
+is_text _ = false
+
+-- at this width the texts of the document's trace are these, with what is around them
+abbrev pub HasTextsIn : ℕ → Tree → List Enclosed → Type 0
+HasTextsIn width d ps = filter (λ (p : Enclosed). is_text p.piece) (enclosed_pieces (enclosed_trace (options_at width) d)) ≡ ps
+
+-- a text with another at the end of its line, in a group
+abbrev pub late_in_group : Tree
+late_in_group = Group (Append (row_text "a") (LineSuffix (row_text " # c")))
 
 -- ---- what is shown, and what is not
 

@@ -10,6 +10,7 @@ pub mod rows;
 mod shown;
 mod total;
 mod traced;
+mod width;
 
 pub use flat::law_flat_group;
 pub use groups::law_parts;
@@ -18,3 +19,4 @@ pub use regrouped::law_regroup;
 pub use shown::law_texts;
 pub use total::law_total;
 pub use traced::{law_deferred, law_endings};
+pub use width::law_width;

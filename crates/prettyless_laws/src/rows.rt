@@ -1,14 +1,16 @@
-//! Traces of small documents, what small documents show, and what they are on a flat line, as the definitions alone compute
-//! them. The functions do nothing: their contracts speak.
+//! Traces of small documents, what is around their texts, what small documents show, and what they are on a flat line, as the
+//! definitions alone compute them. The functions do nothing: their contracts speak.
 
 ghost use Rattle.std.specs.Prelude.{pos, codes, true, false, ◌∷◌, ◌++◌, []};
 ghost use Rattle.prettyless_model.specs.declared.choice.ColumnTest.TheVariants as by_column;
 ghost use Rattle.prettyless_model.specs.Tree.{Nil, Fail, MultilineText, WeakSpace, HardLine, WeakLine, Append, LineSuffix, Nest, Flatten};
-ghost use Rattle.prettyless_model.specs.Tree.{Union, PartialUnion};
+ghost use Rattle.prettyless_model.specs.Tree.{Group, Union, PartialUnion};
 ghost use Rattle.prettyless_model.specs.Rows.{accent, at_indent, flat_or_failed, in_turn, letter, letter_in_group, noted, numbers, pair};
 ghost use Rattle.prettyless_model.specs.Rows.{row_text, tight_pair, two_lines};
 ghost use Rattle.prettyless_model.specs.Shows.{Mark, AreShown, apart, ended, loose, spaced};
 ghost use Rattle.prettyless_laws.specs.Trace.{Ending, Indent, Gap, Source, Alternative, First, Second};
+ghost use Rattle.prettyless_laws.specs.Enclosed.{FlatGroup, BrokenGroup, Flattened, KeptBranch};
+ghost use Rattle.prettyless_laws.specs.Rows.{HasTextsIn, late_in_group, text_in};
 ghost use Rattle.prettyless_laws.specs.Rows.{DoesNotHave, DoesNotShow, FailsAfter, HasNoTexts, HasTrace, IsFlatText};
 ghost use Rattle.prettyless_laws.specs.Rows.{LinedTextsStandApart, ShowsItems, ShowsNothing, WideListsAreLaidByTheirMembers};
 ghost use Rattle.prettyless_laws.specs.Rows.{WideTextsAreOnLines, accented, either_number, late_item, late_comment, late_with};
@@ -60,6 +62,30 @@ pub fn rows()
         (Ending ∷ Indent 2 true ∷ Gap 0 ∷ Ending ∷ Indent 2 true ∷ Gap 0 ∷ text_piece "b" 3 ∷ []) }
     ensures failure { FailsAfter 80 (in_turn (row_text "a") (HardLine ∷ Fail ∷ []))
         (Gap 0 ∷ text_piece "a" 1 ∷ Ending ∷ Indent 0 false ∷ []) }
+{}
+
+/// What is around the texts of small documents. Those past the width are what `law_width` leaves out.
+pub fn enclosures()
+    ensures fills { HasTextsIn 3 (pair "a" "b")
+        (text_in (FlatGroup ∷ []) "a" 1 ∷ text_in (FlatGroup ∷ []) " " 2 ∷ text_in (FlatGroup ∷ []) "b" 3 ∷ []) }
+    ensures broken { HasTextsIn 3 (Group (in_turn (pair "a" "b") (HardLine ∷ row_text "long" ∷ [])))
+        (text_in (BrokenGroup ∷ FlatGroup ∷ []) "a" 1 ∷ text_in (BrokenGroup ∷ FlatGroup ∷ []) " " 2
+        ∷ text_in (BrokenGroup ∷ FlatGroup ∷ []) "b" 3 ∷ text_in (BrokenGroup ∷ []) "long" 4 ∷ []) }
+
+    // A group in a `Flatten` may end past the width.
+    ensures flattened { HasTextsIn 1 (Flatten (Group (row_text "long"))) (text_in (Flattened ∷ FlatGroup ∷ []) "long" 4 ∷ []) }
+
+    // A line suffix of a flat group may, since it is laid at the end of the line. A group of its own may not.
+    ensures late { HasTextsIn 1 late_in_group (text_in (FlatGroup ∷ []) "a" 1 ∷ text_in [] " # c" 5 ∷ []) }
+    ensures late_groups { HasTextsIn 3 (Group (in_turn (row_text "a") (LineSuffix (Group (row_text "b")) ∷ HardLine ∷ [])))
+        (text_in (BrokenGroup ∷ []) "a" 1 ∷ text_in (BrokenGroup ∷ FlatGroup ∷ []) "b" 2 ∷ []) }
+    ensures late_flattened { HasTextsIn 1 (Flatten (in_turn (row_text "a") (LineSuffix (row_text " # c") ∷ WeakLine ∷ [])))
+        (text_in (Flattened ∷ []) "a" 1 ∷ text_in (Flattened ∷ []) " # c" 5 ∷ []) }
+
+    // So may the later lines of a partial union's first branch, but no line of a union's.
+    ensures kept { HasTextsIn 5 (Union (row_text "short") (row_text "x")) (text_in (KeptBranch ∷ []) "short" 5 ∷ []) }
+    ensures by_first_line { HasTextsIn 1 (PartialUnion (two_lines "a" "long") (row_text "x"))
+        (text_in [] "a" 1 ∷ text_in [] "long" 4 ∷ []) }
 {}
 
 /// On a flat line a document is one text. Lists that are wider than the width are laid by their members, each on lines of its own.

@@ -13,5 +13,4 @@ pub mod Gaps
 pub mod Showing
 pub mod SpacedTexts
 pub mod Content
-pub mod AppendedTexts
 pub mod SpaceRuns

@@ -10,7 +10,8 @@ use Rattle.prettyless_model.specs.declared.mode.Mode.TheVariants.{Break}
 use Rattle.prettyless_model.proofs.Outcomes.{after-after}
 use Rattle.prettyless_model.proofs.Levels.{settle_fixed}
 use Rattle.prettyless_probe.specs.Stack.{Task, make_task, follow}
-use Rattle.prettyless_step.specs.Steps.{lay_all, work, pending_work, Step, Move, Stuck, Choose, step_of, chosen, step_outcome}
+use Rattle.prettyless_step.specs.Steps.{lay_all, work, pending_work, Step, Move, Stuck, Choose, step_of, chosen}
+use Rattle.prettyless_step.proofs.Shown.{step_outcome}
 use Rattle.prettyless_printer.specs.Progress.{Inside, ChoiceNext}
 use Rattle.prettyless_printer.specs.Turns.{bytes_before}
 use Rattle.prettyless_probe.proofs.Stacks.{follow-append, nodes-append, split_top}

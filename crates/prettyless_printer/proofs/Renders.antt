@@ -187,18 +187,13 @@ begins p d e s =
     (sym (ap (λ (x : List Task). lay_all p.options (settle p.options) x [] (state_at p)) e
     ∙ ap (lay_all p.options (settle p.options) (make_task 0 Break d ∷ []) []) s ∙ lay_all-one p.options d initial))
 
--- a count more does not change the others
-counted_with : {A E : Type 0} (o : RenderOptions) (d : Tree) (v w : Visits) (n : ℕ) (r : Result A E) → OnOk r (VisitedAtLeast o d v w)
-    → OnOk r (VisitedAtLeast o d v (record w { refused = n }))
-counted_with o d v w n (Ok x) h = record { printer = h.printer; probes = h.probes }
-counted_with o d v w n (Err e) h = tt
-
 -- a run to the end, from a document that is the only task, is a render
-pub renders : {A E : Type 0} (fails : E → Type 0) (d : Tree) {a b : Point} (n : ℕ) (r : Result A (RenderError E))
+pub renders : {A E : Type 0} (fails : E → Type 0) (d : Tree) {a b : Point} (m n : ℕ) (r : Result A (RenderError E))
     → a.printer.tasks ≡ make_task 0 Break d ∷ [] → state_at a.printer ≡ initial → RunsToEnd fails a b r →
-    a.visits.refused ≤ n → (IsLinear d → n ≡ 0 → IsLinearBound 16 1000 (size d) a.visits b.visits) →
-    Renders fails a.printer.options d a.sink b.sink a.visits (record b.visits { refused = n }) r
-renders fails d {a} {b} n r e s h refused few = record {
+    m ≤ n → (IsLinear d → n ≡ 0 → IsLinearBound 16 1000 (size d) a.visits b.visits) →
+    Renders fails a.printer.options d a.sink b.sink (record { visits = a.visits; refused = m })
+    (record { visits = b.visits; refused = n }) r
+renders fails d {a} {b} m n r e s h refused few = record {
   same_lender = h.same_lender;
   bytes = λ is_known.
       let y = h.bytes is_known in (
@@ -206,11 +201,9 @@ renders fails d {a} {b} n r e s h refused few = record {
         subst (λ (z : Bytes). Rendered fails z (known a.sink.bytes) (known b.sink.bytes) a.sink.failures b.sink.failures r)
             (sym (begins a.printer d e s)) y.1,
       );
-  rise = record { printer = h.rise.printer; probes = h.rise.probes };
-  visited =
-      let once = visited b.printer r e (ap (λ (u : State). u.pending) s) h.at_most in
-      record { printer = once.printer; probes = once.probes };
+  rise = h.rise;
+  visited = visited b.printer r e (ap (λ (u : State). u.pending) s) h.at_most;
   refused = refused;
   few = few;
-  at_least = counted_with a.printer.options d a.visits b.visits n r (visited_at_least d a.printer a.visits b.visits r e s h.at_least);
+  at_least = visited_at_least d a.printer a.visits b.visits r e s h.at_least;
 }

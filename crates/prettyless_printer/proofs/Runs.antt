@@ -20,7 +20,8 @@ use Rattle.prettyless_model.proofs.Levels.{Fixed}
 use Rattle.prettyless_model.specs.declared.mode.Mode.{Mode}
 use Rattle.prettyless_model.specs.declared.mode.Mode.TheVariants.{Break, Flat}
 use Rattle.prettyless_probe.specs.Stack.{Task, make_task, tasks, follow}
-use Rattle.prettyless_step.specs.Steps.{lay_all, step_of, break_step, union_step, decided_by_metrics, at_once, chosen, step_outcome}
+use Rattle.prettyless_step.specs.Steps.{lay_all, step_of, break_step, union_step, decided_by_metrics, at_once, chosen}
+use Rattle.prettyless_step.proofs.Shown.{step_outcome}
 
 -- ---- What tasks lay
 

@@ -5,6 +5,7 @@ use Rattle.prettyless_sink.specs.Sink.{known}
 use Rattle.prettyless_sink.specs.declared.error.RenderError.{RenderError}
 use Rattle.prettyless_sink.specs.declared.error.RenderError.TheVariants.{Memory}
 use Rattle.prettyless_sink.specs.declared.render.Render.{Ghosts}
+use Rattle.prettyless_sink.specs.declared.visits.RenderCost.{RenderCost}
 use Rattle.prettyless_sink.specs.declared.visits.Visits.{Visits}
 use Rattle.prettyless_model.specs.declared.options.RenderOptions.{RenderOptions}
 use Rattle.prettyless_model.specs.Layout.{State, bytes_in, layout}
@@ -86,22 +87,23 @@ pub begins_small : {o : RenderOptions} {d : Tree} {p : Standing} (most : ℕ) �
 begins_small {o} {d} {p} most begins small = omega (arith, ap nodes begins.tasks, small)
 
 -- a run to the end, from before a document, is a render
-pub begun_renders : {A E : Type 0} (fails : E → Type 0) {o : RenderOptions} {d : Tree} {a b : Point} (n : ℕ) (r : Result A (RenderError E))
-    → Begins o d a.printer → RunsToEnd fails a b r →
-    a.visits.refused ≤ n → (IsLinearStart a.printer → n ≡ 0 → IsLinearBound 16 1000 (nodes a.printer.tasks) a.visits b.visits) →
-    Renders fails o d a.sink b.sink a.visits (record b.visits { refused = n }) r
-begun_renders fails {o} {d} {a} {b} n r begins ran refused few =
-    subst (λ (x : RenderOptions). Renders fails x d a.sink b.sink a.visits (record b.visits { refused = n }) r) begins.options
-    (renders fails d n r begins.tasks begins.state ran refused
+pub begun_renders : {A E : Type 0} (fails : E → Type 0) {o : RenderOptions} {d : Tree} {a b : Point} (m n : ℕ)
+    (r : Result A (RenderError E)) → Begins o d a.printer → RunsToEnd fails a b r →
+    m ≤ n → (IsLinearStart a.printer → n ≡ 0 → IsLinearBound 16 1000 (nodes a.printer.tasks) a.visits b.visits) →
+    Renders fails o d a.sink b.sink (record { visits = a.visits; refused = m }) (record { visits = b.visits; refused = n }) r
+begun_renders fails {o} {d} {a} {b} m n r begins ran refused few =
+    subst (λ (x : RenderOptions). Renders fails x d a.sink b.sink (record { visits = a.visits; refused = m })
+    (record { visits = b.visits; refused = n }) r) begins.options
+    (renders fails d m n r begins.tasks begins.state ran refused
     (λ linear none. begins_few 16 1000 a.visits b.visits begins (few (begins_linear begins linear) none)))
 
 -- a render that is refused memory before its first node
-pub refused_renders : {A E : Type 0} (fails : E → Type 0) (o : RenderOptions) (d : Tree) (s : Seen) (v : Visits) (e : AllocError)
+pub refused_renders : {A E : Type 0} (fails : E → Type 0) (o : RenderOptions) (d : Tree) (s : Seen) (v : RenderCost) (e : AllocError)
     → Renders {A = A} fails o d s s v v (Err (Memory e))
 refused_renders fails o d s v e = record {
   same_lender = refl;
   bytes = λ is_known. (is_known, (([], bytes_in (layout o d), refl, sym (append-nil (known s.bytes))), refl));
-  rise = rise_same v;
+  rise = rise_same v.visits;
   visited = record { printer = λ _. omega arith; probes = λ _. omega arith };
   refused = omega arith;
   few = λ linear none room. omega arith;

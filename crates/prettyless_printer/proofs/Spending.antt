@@ -13,14 +13,14 @@ use Rattle.prettyless_model.specs.Counts.{each_probe}
 use Rattle.prettyless_model.specs.Layout.{State, some_pending}
 use Rattle.prettyless_summary.specs.Summary.{HasSummaries}
 use Rattle.prettyless_probe.specs.Stack.{Task, make_task, nodes, follow, trees}
-use Rattle.prettyless_step.specs.Steps.{Step, StepHasSummaries, Move, Stuck, Choose}
+use Rattle.prettyless_step.specs.Steps.{Step, Move, Stuck, Choose}
 use Rattle.prettyless_probe.specs.Probing.{asked, Few}
 use Rattle.prettyless_step.specs.Printing.{Descends, Shows, state_of, tasks_of}
 use Rattle.prettyless_probe.specs.Sums.{AllSummed, HaveSummaries, TreesHaveSummaries}
 use Rattle.prettyless_step.specs.declared.printer.Printer.{Printer}
 use Rattle.prettyless_step.specs.declared.printer.StepResult.TheVariants.{Failed, Choice}
 use Rattle.prettyless_step.proofs.Shown.{step_at, StepsTo, IsChoice}
-use Rattle.prettyless_step.proofs.Summaries.{step_has}
+use Rattle.prettyless_step.proofs.Summaries.{StepHasSummaries, step_has}
 use Rattle.prettyless_printer.specs.Points.{Standing, standing, state_at, Seen, Point, point}
 use Rattle.prettyless_printer.specs.Visits.{Plain, CountsAtMost}
 use Rattle.prettyless_printer.specs.Spending.{Capped, Left, Rule, Spends, left, none_left, rule_of}

@@ -30,6 +30,7 @@ pub record IsLinearStart (p : Standing) : Type 0 where
 abbrev pub IsLinearBound : ℕ → ℕ → ℕ → Visits → Visits → Type 0
 IsLinearBound factor more n v w = v.printer + n < 2 ^ 64 - 1 → w.probes ≤ v.probes + (factor * n + more)
 
--- where a table has all nodes of a document from the first one on, and none was refused memory, probes visit at most two nodes for each
-abbrev pub BoundedByTable : Tree → Visits → Visits → Type 0
-BoundedByTable d v w = IsLinear d → size d ≤ 1048576 → w.refused ≡ 0 → IsLinearBound 2 0 (size d) v w
+-- Where a table has all nodes of a document from the first one on, and none was refused memory, probes visit at most two nodes for each.
+-- So many tables were refused memory.
+abbrev pub BoundedByTable : Tree → ℕ → Visits → Visits → Type 0
+BoundedByTable d refused v w = IsLinear d → size d ≤ 1048576 → refused ≡ 0 → IsLinearBound 2 0 (size d) v w

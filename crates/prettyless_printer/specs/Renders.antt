@@ -3,6 +3,7 @@ use Rattle.std.specs.Prelude.{◌≡◌, ℕ, ◌≤◌, List, [], ◌∷◌, �
 use Rattle.prettyless_sink.specs.Sink.{AppendsBeginning, IfKnown, rise}
 use Rattle.prettyless_sink.specs.declared.error.RenderError.{RenderError}
 use Rattle.prettyless_sink.specs.declared.error.RenderError.TheVariants.{Document, Sink, Memory}
+use Rattle.prettyless_sink.specs.declared.visits.RenderCost.{RenderCost}
 use Rattle.prettyless_sink.specs.declared.visits.Visits.{Visits}
 use Rattle.prettyless_model.specs.declared.options.RenderOptions.{RenderOptions}
 use Rattle.prettyless_model.specs.declared.mode.Mode.TheVariants.{Break}
@@ -139,23 +140,23 @@ pub record Begins (o : RenderOptions) (d : Tree) (p : Standing) : Type 0 where
   pub state : state_at p ≡ initial
   pub queue : p.queue ≡ []
 
--- A render of a document to a sink, seen before and after, with the visits before and after.
-pub record Renders {A E : Type 0} (fails : E → Type 0) (o : RenderOptions) (d : Tree) (s t : Seen) (v w : Visits)
+-- A render of a document to a sink, seen before and after, with the cost before and after.
+pub record Renders {A E : Type 0} (fails : E → Type 0) (o : RenderOptions) (d : Tree) (s t : Seen) (v w : RenderCost)
     (r : Result A (RenderError E)) : Type 0 where
   -- the sink writes through the same reference
   pub same_lender : t.lender ≡ s.lender
   -- where the sink's bytes are known, the layout's bytes were appended, as far as the result says
   pub bytes : IfKnown s.bytes t.bytes (λ before after. Rendered fails (layout o d) before after s.failures t.failures r)
   -- no count of visits fell
-  pub rise : Rise v w
+  pub rise : Rise v.visits w.visits
   -- without line suffixes, the printer visits each node at most once, and probes at most once for each node that needs one
-  pub visited : Visited d v w
+  pub visited : Visited d v.visits w.visits
   -- refusals of memory for a table are counted
   pub refused : v.refused ≤ w.refused
   -- where a table bounds the probes, and none was refused memory, they visit at most sixteen nodes for each node, and a thousand
-  pub few : IsLinear d → w.refused ≡ 0 → IsLinearBound 16 1000 (size d) v w
+  pub few : IsLinear d → w.refused ≡ 0 → IsLinearBound 16 1000 (size d) v.visits w.visits
   -- on success, at least the nodes that the layout lays are counted, and the probes that it needs
-  pub at_least : OnOk r (VisitedAtLeast o d v w)
+  pub at_least : OnOk r (VisitedAtLeast o d v.visits w.visits)
 
 -- The same where no failures are seen: what a render appended.
 abbrev pub RendersInto : {A E : Type 0} → (E → Type 0) → Bytes → List ℕ → List ℕ → Result A (RenderError E) → Type 0

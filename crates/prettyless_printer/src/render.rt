@@ -17,7 +17,7 @@ use prettyless_probe::stack::Stack;
 use prettyless_probe::walk::Walk;
 use prettyless_sink::error::RenderError;
 use prettyless_sink::render::Render;
-use prettyless_sink::visits::Visits;
+use prettyless_sink::visits::{RenderCost, Visits};
 use prettyless_step::printer::Printer;
 use prettyless_step::queue::Queue;
 use std::alloc::{AllocError, Global};
@@ -59,22 +59,22 @@ fn render_with_room<N: Walk, W: Render>(
     node: N,
     options: RenderOptions,
     out: &mut W,
-    visits: &mut Visits,
+    cost: &mut RenderCost,
     room: u64,
 ) -> Result<(), RenderError<W::Error>>
     ensures renders { Renders (W.document_errors out.new) options (N.tree node)
         (seen W.bytes W.failures W.lender out.old) (seen W.bytes W.failures W.lender out.new)
-        visits.old visits.new result }
-    ensures twice { IsLinear (N.tree node) → size (N.tree node) ≤ room → visits.new.refused ≡ 0
-        → IsLinearBound 2 0 (size (N.tree node)) visits.old visits.new }
+        cost.old cost.new result }
+    ensures twice { IsLinear (N.tree node) → size (N.tree node) ≤ room → cost.new.refused ≡ 0
+        → IsLinearBound 2 0 (size (N.tree node)) cost.old.visits cost.new.visits }
 {
-    match run_before(alloc, node, options, *visits) {
+    match run_before(alloc, node, options, cost.visits) {
         Ok(mut run) => {
-            let mut refused = visits.refused;
+            let mut refused = cost.refused;
             let result = run.run_with_shift(out, room, &mut refused);
-            *visits = Visits {
+            *cost = RenderCost {
+                visits: run.visits,
                 refused,
-                ..run.visits
             };
             result
         }
@@ -89,23 +89,23 @@ fn render_with_room<N: Walk, W: Render>(
 /// and `Memory` where a growth was refused, which leaves the sink's failures as they were: what was appended then is a
 /// beginning of the layout's bytes.
 ///
-/// The nodes that are visited are added to `visits`. On success the printer has visited at least the nodes that the layout
-/// lays, and its probes at least one node for each probe that the layout needs; a rejected branch counts nothing here.
-/// Without line suffixes the printer visits at most as many nodes as the document has, and its probes together at most
-/// that many for each node that needs one. Where the document is linear too (`IsLinear`) and no table was refused memory, probes
-/// visit at most sixteen nodes for each node of the document, and a thousand.
+/// The nodes that are visited are added to `cost`, and so are the tables that are refused memory. On success the printer has
+/// visited at least the nodes that the layout lays, and its probes at least one node for each probe that the layout needs; a
+/// rejected branch counts nothing here. Without line suffixes the printer visits at most as many nodes as the document has, and
+/// its probes together at most that many for each node that needs one. Where the document is linear too (`IsLinear`) and no table
+/// was refused memory, probes visit at most sixteen nodes for each node of the document, and a thousand.
 pub fn render<N: Walk, W: Render>(
     alloc: Global,
     node: N,
     options: RenderOptions,
     out: &mut W,
-    visits: &mut Visits,
+    cost: &mut RenderCost,
 ) -> Result<(), RenderError<W::Error>>
     ensures { Renders (W.document_errors out.new) options (N.tree node)
         (seen W.bytes W.failures W.lender out.old) (seen W.bytes W.failures W.lender out.new)
-        visits.old visits.new result }
+        cost.old cost.new result }
 {
-    render_with_room(alloc, node, options, out, visits, 0)
+    render_with_room(alloc, node, options, out, cost, 0)
 }
 
 /// Renders the document of a node as `render` does, over a table of all of its nodes from the first one on: each probe takes two
@@ -117,12 +117,12 @@ pub fn render_over_table<N: Walk, W: Render>(
     node: N,
     options: RenderOptions,
     out: &mut W,
-    visits: &mut Visits,
+    cost: &mut RenderCost,
 ) -> Result<(), RenderError<W::Error>>
     ensures renders { Renders (W.document_errors out.new) options (N.tree node)
         (seen W.bytes W.failures W.lender out.old) (seen W.bytes W.failures W.lender out.new)
-        visits.old visits.new result }
-    ensures twice { BoundedByTable (N.tree node) visits.old visits.new }
+        cost.old cost.new result }
+    ensures twice { BoundedByTable (N.tree node) cost.new.refused cost.old.visits cost.new.visits }
 {
-    render_with_room(alloc, node, options, out, visits, ROOM_AT_FIRST)
+    render_with_room(alloc, node, options, out, cost, ROOM_AT_FIRST)
 }

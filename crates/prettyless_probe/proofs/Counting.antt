@@ -1,5 +1,5 @@
 -- How many nodes a probe reads, node by node.
-use Rattle.std.proofs.Common.{◌≡◌, ℕ, ◌+◌, ◌-◌, ◌^◌, ◌<◌, ◌≤◌, min, List, [], ◌∷◌, refl, Result, Ok, Err, IfOk, Bool, true, false}
+use Rattle.std.proofs.Common.{◌≡◌, ℕ, ◌+◌, ◌-◌, ◌^◌, ◌<◌, ◌≤◌, min, List, [], ◌∷◌, refl, Result, Ok, Err, IfOk, OnOk, Bool, true, false}
 use Rattle.std.proofs.Common.{◌&&◌, ◌||◌, nat_lt, ◌∙◌, ap, arith, sym, if◌then◌else◌, IsTrue}
 use Rattle.prettyless_model.specs.Tree as t
 use Rattle.prettyless_model.specs.Tree.{Tree, size}
@@ -245,3 +245,7 @@ reads_unknown w t ts c p h = rw h refl
 pub if_ok : {T E : Type 0} (r : Result T E) (P Q : T → Type 0) → ((a : T) → P a → Q a) → IfOk r P → IfOk r Q
 if_ok (Ok x) P Q via h = via x h
 if_ok (Err e) P Q via h = h
+
+pub on_ok_from : {T E A : Type 0} (r : Result T E) → A → OnOk r A
+on_ok_from (Ok x) h = h
+on_ok_from (Err e) h = tt

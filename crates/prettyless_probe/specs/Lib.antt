@@ -6,3 +6,4 @@ pub mod Reads
 pub mod Glances
 pub mod Probing
 pub mod Texts
+pub mod Costs

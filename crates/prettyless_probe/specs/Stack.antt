@@ -40,6 +40,10 @@ framed_tasks f frames here nodes = downwards (task f) (spread frames here nodes)
 abbrev pub stack_of : {N : Type 0} → (N → Tree) → Stack N → List Task
 stack_of f s = framed_tasks f s.frames.items s.here s.nodes.items
 
+-- the same, after a node of the topmost frame
+abbrev pub with_next : {N : Type 0} → (N → Tree) → N → Stack N → List Task
+with_next f n s = make_task s.here.indent s.here.mode (f n) ∷ stack_of f s
+
 -- how many nodes a stack has memory for
 abbrev pub room_of : {N : Type 0} → Stack N → ℕ
 room_of s = vec_capacity s.nodes

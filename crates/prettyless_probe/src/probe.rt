@@ -1,8 +1,8 @@
 //! The probe: whether a node fits the line with what follows it.
 //! It knows nodes by `Walk` alone, and of a printer the commands that it has left. It knows no sink.
 ghost use Rattle.std.specs.Prelude.{◌≡◌, ◌++◌, ◌∷◌, [], IfOk, OnOk, IfSome, MatchOption, List, false, length, true, IsTrue, ◌&&◌};
-ghost use Rattle.std.specs.Prelude.{◌+◌, ◌<◌, ◌≤◌, ◌^◌, nat_lt};
-ghost use Rattle.std.specs.Prelude.{if◌then◌else◌, ℕ, Bool};
+ghost use Rattle.std.specs.Prelude.{◌+◌, ◌<◌, ◌≤◌, nat_lt};
+ghost use Rattle.std.specs.Prelude.{if◌then◌else◌, ℕ, Bool, ⊤};
 ghost use Rattle.prettyless_model.specs.Tree.{Tree, WeakLine, size};
 ghost use Rattle.prettyless_model.specs.declared.mode.Mode.TheVariants.{Flat};
 ghost use Rattle.prettyless_model.specs.Column.{commit, nested, padding_fits, prospective, start};
@@ -12,10 +12,11 @@ ghost use Rattle.prettyless_model.specs.declared.column.Column.{Column};
 ghost use Rattle.prettyless_probe.specs.declared.probe.ProbeLine.{ProbeLine};
 ghost use Rattle.prettyless_probe.specs.declared.probe.ProbeStep.TheVariants.{Answer, Silent, Descend};
 ghost use Rattle.prettyless_probe.specs.declared.probe.Fit.TheVariants.{FitsAsTexts, Fits, Exceeds};
-ghost use Rattle.prettyless_probe.specs.Probing.{Few, ReadsAs, RisesBy, RoomAt, TextsAt, is_fit, look_by_answer, nodes_next, read_in, read_of};
-ghost use Rattle.prettyless_probe.specs.Reads.{IsFew, RisesTo, parts_read, probe_reads, reads_all, reads_below, reads_next, reads_on};
+ghost use Rattle.prettyless_probe.specs.Probing.{ReadsAs, RoomAt, TextsAt, is_fit, look_by_answer, nodes_next, read_in, read_of};
+ghost use Rattle.prettyless_probe.specs.Reads.{parts_read, probe_reads, reads_all, reads_below, reads_next, reads_on};
 ghost use Rattle.prettyless_probe.specs.Sums.{IsSummed};
-ghost use Rattle.prettyless_probe.specs.Stack.{IsCursor, Task, follow, in_break, make_task, nodes, stack_of, task, tasks_fit};
+ghost use Rattle.prettyless_probe.specs.Costs.{PartCosts, ProbeCosts};
+ghost use Rattle.prettyless_probe.specs.Stack.{IsCursor, Task, follow, in_break, make_task, nodes, stack_of, task, tasks_fit, with_next};
 ghost use Rattle.prettyless_probe.specs.Stack.{room_of, unread};
 ghost use Rattle.prettyless_probe.specs.Glances.{IsLearned};
 ghost use Rattle.prettyless_summary.specs.Summary.{has_summary};
@@ -331,22 +332,17 @@ fn visit_other<N: Walk>(
     is_texts: &mut bool,
 ) -> Result<FrameStep<N>, AllocError>
     ensures answer { IfOk result (λ a. (ts : List Task) → ReadsAs N.tree width (read_in stack.new a)
-        (tasks_fit width (make_task stack.old.here.indent stack.old.here.mode (N.tree node) ∷ (stack_of N.tree stack.old ++ ts))
-        line.old.column line.old.pending)
+        (tasks_fit width (with_next N.tree node stack.old ++ ts) line.old.column line.old.pending)
         (stack_of N.tree stack.new ++ ts) line.new.column line.new.pending) }
-    ensures smaller { IfOk result (λ a.
-        nodes_next N.tree (read_in stack.new a) + nodes (stack_of N.tree stack.new) < size (N.tree node)
-        + nodes (stack_of N.tree stack.old)) }
-    ensures reads { IfOk result (λ a. (next : Column → Bool → ℕ) → reads_all false width
-        (make_task stack.old.here.indent stack.old.here.mode (N.tree node) ∷ stack_of N.tree stack.old) next
-        line.old.column line.old.pending
+    ensures smaller { IfOk result (λ a. nodes_next N.tree (read_in stack.new a) + nodes (stack_of N.tree stack.new)
+        < nodes (with_next N.tree node stack.old)) }
+    ensures reads { IfOk result (λ a. (next : Column → Bool → ℕ)
+        → reads_all false width (with_next N.tree node stack.old) next line.old.column line.old.pending
         ≡ 1 + reads_on N.tree false width (read_in stack.new a) (stack_of N.tree stack.new) next line.new.column line.new.pending) }
     ensures texts { IfOk result (λ a. IsTrue is_texts.new → IsTrue is_texts.old × ((d : Tree)
-        → IsTextsIf d (make_task stack.old.here.indent stack.old.here.mode (N.tree node) ∷ stack_of N.tree stack.old)
-        → TextsAt N.tree d (read_in stack.new a) (stack_of N.tree stack.new))) }
+        → IsTextsIf d (with_next N.tree node stack.old) → TextsAt N.tree d (read_in stack.new a) (stack_of N.tree stack.new))) }
     ensures room { OnOk result (room_of stack.old ≤ room_of stack.new) }
-    ensures waiting { IfOk result (λ a. IsTrue is_texts.new → RoomAt N.tree
-        (tasks_waiting (make_task stack.old.here.indent stack.old.here.mode (N.tree node) ∷ stack_of N.tree stack.old))
+    ensures waiting { IfOk result (λ a. IsTrue is_texts.new → RoomAt N.tree (tasks_waiting (with_next N.tree node stack.old))
         (room_of stack.new) (read_in stack.new a) (stack_of N.tree stack.new)) }
 {
     let mut other = line.get();
@@ -376,22 +372,17 @@ fn visit_one<N: Walk>(
     is_texts: &mut bool,
 ) -> Result<FrameStep<N>, AllocError>
     ensures answer { IfOk result (λ a. (ts : List Task) → ReadsAs N.tree width (read_in stack.new a)
-        (tasks_fit width (make_task stack.old.here.indent stack.old.here.mode (N.tree node) ∷ (stack_of N.tree stack.old ++ ts))
-        line.old.column line.old.pending)
+        (tasks_fit width (with_next N.tree node stack.old ++ ts) line.old.column line.old.pending)
         (stack_of N.tree stack.new ++ ts) line.new.column line.new.pending) }
-    ensures smaller { IfOk result (λ a.
-        nodes_next N.tree (read_in stack.new a) + nodes (stack_of N.tree stack.new) < size (N.tree node)
-        + nodes (stack_of N.tree stack.old)) }
-    ensures reads { IfOk result (λ a. (next : Column → Bool → ℕ) → reads_all false width
-        (make_task stack.old.here.indent stack.old.here.mode (N.tree node) ∷ stack_of N.tree stack.old) next
-        line.old.column line.old.pending
+    ensures smaller { IfOk result (λ a. nodes_next N.tree (read_in stack.new a) + nodes (stack_of N.tree stack.new)
+        < nodes (with_next N.tree node stack.old)) }
+    ensures reads { IfOk result (λ a. (next : Column → Bool → ℕ)
+        → reads_all false width (with_next N.tree node stack.old) next line.old.column line.old.pending
         ≡ 1 + reads_on N.tree false width (read_in stack.new a) (stack_of N.tree stack.new) next line.new.column line.new.pending) }
     ensures texts { IfOk result (λ a. IsTrue is_texts.new → IsTrue is_texts.old × ((d : Tree)
-        → IsTextsIf d (make_task stack.old.here.indent stack.old.here.mode (N.tree node) ∷ stack_of N.tree stack.old)
-        → TextsAt N.tree d (read_in stack.new a) (stack_of N.tree stack.new))) }
+        → IsTextsIf d (with_next N.tree node stack.old) → TextsAt N.tree d (read_in stack.new a) (stack_of N.tree stack.new))) }
     ensures room { OnOk result (room_of stack.old ≤ room_of stack.new) }
-    ensures waiting { IfOk result (λ a. IsTrue is_texts.new → RoomAt N.tree
-        (tasks_waiting (make_task stack.old.here.indent stack.old.here.mode (N.tree node) ∷ stack_of N.tree stack.old))
+    ensures waiting { IfOk result (λ a. IsTrue is_texts.new → RoomAt N.tree (tasks_waiting (with_next N.tree node stack.old))
         (room_of stack.new) (read_in stack.new a) (stack_of N.tree stack.new)) }
 {
     match node.view() {
@@ -440,26 +431,19 @@ fn next_unread<N: Walk>(
 ) -> Result<Option<N>, AllocError>
     requires { IsCursor commands.now below.old }
     ensures of_this { IsCursor commands.now below.new }
-    ensures ahead { IfOk result (λ o. MatchOption o
-        (stack_of N.tree stack.old ++ in_break (unread N.tree commands.now below.old) ≡ [])
+    ensures ahead { IfOk result (λ o. MatchOption o (stack_of N.tree stack.old ++ in_break (unread N.tree commands.now below.old) ≡ [])
         (λ n. stack_of N.tree stack.old ++ in_break (unread N.tree commands.now below.old)
-        ≡ make_task stack.new.here.indent stack.new.here.mode (N.tree n)
-        ∷ (stack_of N.tree stack.new ++ in_break (unread N.tree commands.now below.new)))) }
-    ensures left { IfOk result (λ o. IfSome o
-        (λ n. nodes (stack_of N.tree stack.old) + nodes (unread N.tree commands.now below.old)
-        ≡ size (N.tree n) + (nodes (stack_of N.tree stack.new) + nodes (unread N.tree commands.now below.new)))) }
+        ≡ with_next N.tree n stack.new ++ in_break (unread N.tree commands.now below.new))) }
+    ensures left { IfOk result (λ o. IfSome o (λ n. nodes (stack_of N.tree stack.old) + nodes (unread N.tree commands.now below.old)
+        ≡ nodes (with_next N.tree n stack.new) + nodes (unread N.tree commands.now below.new))) }
     ensures reads { IfOk result (λ o. (width : ℕ) (c : Column) (p : Bool) → reads_all false width (stack_of N.tree stack.old)
-        (reads_below false width false (unread N.tree commands.now below.old)) c p
-        ≡ reads_next o (λ n. reads_all false width
-        (make_task stack.new.here.indent stack.new.here.mode (N.tree n) ∷ stack_of N.tree stack.new)
-        (reads_below false width false (unread N.tree commands.now below.new)) c p)) }
+        (reads_below false width false (unread N.tree commands.now below.old)) c p ≡ reads_next o (λ n. reads_all false width
+        (with_next N.tree n stack.new) (reads_below false width false (unread N.tree commands.now below.new)) c p)) }
     ensures texts { IfOk result (λ o. (d : Tree) → IsTextsIf d (stack_of N.tree stack.old)
-        → MatchOption o (IsTexts d) (λ n. IsTextsIf d
-        (make_task stack.new.here.indent stack.new.here.mode (N.tree n) ∷ stack_of N.tree stack.new))) }
+        → MatchOption o (IsTexts d) (λ n. IsTextsIf d (with_next N.tree n stack.new))) }
     ensures room { OnOk result (room_of stack.old ≤ room_of stack.new) }
     ensures waiting { IfOk result (λ o. MatchOption o (tasks_waiting (stack_of N.tree stack.old) ≡ 0)
-        (λ n. tasks_waiting (stack_of N.tree stack.old)
-        ≡ tasks_waiting (make_task stack.new.here.indent stack.new.here.mode (N.tree n) ∷ stack_of N.tree stack.new))) }
+        (λ n. tasks_waiting (stack_of N.tree stack.old) ≡ tasks_waiting (with_next N.tree n stack.new))) }
 {
     if let Some(next) = stack.pop_in() {
         return Ok(Some(next));
@@ -514,14 +498,10 @@ fn visit_all<N: Walk>(
         × IsTexts (N.tree first.node)) }
     ensures room { IfOk result (λ r. r ≡ FitsAsTexts → stack_of N.tree stack.old ≡ []
         → texts_waiting (N.tree first.node) 0 ≤ room_of stack.new) }
-    ensures rises { probes.old ≤ probes.new }
-    ensures counted { probes.new
-        ≤ probes.old + (size (N.tree first.node) + (nodes (stack_of N.tree stack.old) + nodes (unread N.tree commands.now cursor))) }
-    ensures asked { OnOk result (RisesBy 1 probes.old probes.new) }
-    ensures reads { OnOk result (RisesTo (reads_all false width (task N.tree first ∷ stack_of N.tree stack.old)
-        (reads_below false width false (unread N.tree commands.now cursor)) start.column start.pending) probes.old probes.new) }
-    ensures reads_at_most { probes.new ≤ probes.old + reads_all false width (task N.tree first ∷ stack_of N.tree stack.old)
-        (reads_below false width false (unread N.tree commands.now cursor)) start.column start.pending }
+    ensures visits { PartCosts result ⊤ 1
+        (size (N.tree first.node) + (nodes (stack_of N.tree stack.old) + nodes (unread N.tree commands.now cursor)))
+        (reads_all false width (task N.tree first ∷ stack_of N.tree stack.old)
+        (reads_below false width false (unread N.tree commands.now cursor)) start.column start.pending) probes.old probes.new }
 {
     let mut line = LineState::at(start);
     let mut below = cursor;
@@ -606,16 +586,9 @@ pub fn probe<N: Walk>(
         (λ c p. rest_fits width (follow (stack_of N.tree commands.now)) c p)) }
     ensures texts { IfOk result (λ r. r ≡ FitsAsTexts → (mode ≡ Flat) × IsTexts (N.tree node)) }
     ensures room { IfOk result (λ r. r ≡ FitsAsTexts → texts_waiting (N.tree node) 0 ≤ room_of stack.new) }
-    ensures rises { probes.old ≤ probes.new }
-    ensures counted { probes.new ≤ probes.old + (size (N.tree node) + nodes (stack_of N.tree commands.now)) }
-    ensures asked { OnOk result (RisesBy 1 probes.old probes.new) }
-    ensures few { Few N.HAS_SUMMARIES (N.tree node) (stack_of N.tree commands.now) 1 probes.old probes.new }
-    ensures reads { IsFew N.HAS_SUMMARIES (N.tree node) (stack_of N.tree commands.now) → OnOk result (RisesTo
+    ensures visits { ProbeCosts result N.HAS_SUMMARIES (N.tree node) (stack_of N.tree commands.now)
         (probe_reads N.HAS_SUMMARIES probes.old width (N.tree node) indent mode (stack_of N.tree commands.now)
-        start.column start.pending) probes.old probes.new) }
-    ensures reads_at_most { IsFew N.HAS_SUMMARIES (N.tree node) (stack_of N.tree commands.now) → probes.new ≤ probes.old
-        + probe_reads N.HAS_SUMMARIES probes.old width (N.tree node) indent mode (stack_of N.tree commands.now)
-        start.column start.pending }
+        start.column start.pending) probes.old probes.new }
 {
     stack.clear();
     let below = commands.cursor();

@@ -1,13 +1,13 @@
 //! The probe where nodes have summaries: it reads a node that is known by its summary, and what follows by its sum.
 //! It knows nodes by `Walk` alone, and of a printer the commands that it has left.
-ghost use Rattle.std.specs.Prelude.{◌≡◌, ◌++◌, ◌∷◌, IfOk, IsTrue, OnOk, List, [], length, ◌+◌, ◌-◌, ◌*◌, ◌^◌, ◌<◌, ◌≤◌, ℕ, Bool, min, true, false};
+ghost use Rattle.std.specs.Prelude.{◌≡◌, ◌++◌, ◌∷◌, IfOk, IsTrue, List, [], length, ◌+◌, ◌-◌, ◌*◌, ◌^◌, ◌<◌, ◌≤◌, ℕ, Bool, true, false};
 ghost use Rattle.prettyless_model.specs.Tree.{size};
 ghost use Rattle.prettyless_model.specs.Look.{answer_of};
 ghost use Rattle.prettyless_model.specs.declared.column.Column.{Column};
 ghost use Rattle.prettyless_summary.specs.Summary.{look_by};
-ghost use Rattle.prettyless_probe.specs.Probing.{OneLeft, ReadsAs, RisesBy, nodes_next, pace};
-ghost use Rattle.prettyless_probe.specs.Reads.{RisesTo, read_after, reads_all, reads_below, reads_on};
-ghost use Rattle.prettyless_probe.specs.declared.probe.ProbeStep.{ProbeStep};
+ghost use Rattle.prettyless_probe.specs.Probing.{OneLeft, ReadsAs, nodes_next, pace};
+ghost use Rattle.prettyless_probe.specs.Reads.{read_after, reads_all, reads_below, reads_on};
+ghost use Rattle.prettyless_probe.specs.Costs.{GoesOnCosts, IsShort, PartCosts, left_at, probe_point};
 ghost use Rattle.prettyless_probe.specs.Stack.{IsCursor, Task, in_break, make_task, nodes, stack_of, task, tasks_fit, unread};
 ghost use Rattle.prettyless_probe.specs.Sums.{AreSums, HaveSum};
 
@@ -89,22 +89,10 @@ fn read_on<N: Walk>(
         (stack_of N.tree stack.new ++ in_break (unread N.tree commands.now below.new)) line.new.column line.new.pending }
     ensures smaller { pace N.tree result + 2 * (nodes (stack_of N.tree stack.new) + nodes (unread N.tree commands.now below.new))
         < 1 + 2 * (nodes (stack_of N.tree stack.old) + nodes (unread N.tree commands.now below.old)) }
-    ensures rises { probes.old ≤ probes.new }
-    ensures counted { probes.new
-        + (nodes_next N.tree result + (nodes (stack_of N.tree stack.new) + nodes (unread N.tree commands.now below.new)))
-        ≤ probes.old + (nodes (stack_of N.tree stack.old) + nodes (unread N.tree commands.now below.old)) }
-    ensures few { (read : ProbeStep N)
-        → OneLeft N.tree read (stack_of N.tree stack.old) (unread N.tree commands.now below.old) commands.now.sums.items
-        → OneLeft N.tree result (stack_of N.tree stack.new) (unread N.tree commands.now below.new) commands.now.sums.items
-        × (unread N.tree commands.now below.new ≡ []) × (probes.new ≤ probes.old + 1) }
-    ensures fits { probes.old ≤ 2 ^ 64 - 1 → probes.new ≤ 2 ^ 64 - 1 }
     ensures shorter { length (unread N.tree commands.now below.new) ≤ length (unread N.tree commands.now below.old) }
-    ensures reads { length (unread N.tree commands.now below.old) ≤ length commands.now.sums.items
-        → nodes (unread N.tree commands.now below.old) < 2 ^ 32
-        → min (probes.new + reads_on N.tree true width result (stack_of N.tree stack.new)
-        (reads_below true width false (unread N.tree commands.now below.new)) line.new.column line.new.pending) (2 ^ 64 - 1)
-        ≡ min (probes.old + reads_all true width (stack_of N.tree stack.old)
-        (reads_below true width false (unread N.tree commands.now below.old)) line.old.column line.old.pending) (2 ^ 64 - 1) }
+    ensures visits { GoesOnCosts N.tree width commands.now.sums.items result
+        (probe_point (stack_of N.tree stack.old) (unread N.tree commands.now below.old) line.old)
+        (probe_point (stack_of N.tree stack.new) (unread N.tree commands.now below.new) line.new) probes.old probes.new }
 {
     if let Some(next) = stack.pop() {
         return ProbeStep::Descend(next.indent, next.mode, next.node);
@@ -137,21 +125,13 @@ fn read_rest<N: Walk>(
     requires summed { AreSums commands.now.sums.items (unread N.tree commands.now cursor) }
     ensures answer { IfOk result (λ r. ReadsAs N.tree width first r
         (stack_of N.tree stack.old ++ in_break (unread N.tree commands.now cursor)) start.column start.pending) }
-    ensures rises { probes.old ≤ probes.new }
-    ensures counted { probes.new
-        ≤ probes.old + (nodes_next N.tree first + (nodes (stack_of N.tree stack.old) + nodes (unread N.tree commands.now cursor))) }
     ensures few { OneLeft N.tree first (stack_of N.tree stack.old) (unread N.tree commands.now cursor) commands.now.sums.items
         → probes.new ≤ probes.old + 1 }
-    ensures reads { probes.old ≤ 2 ^ 64 - 1 → IsTrue N.HAS_SUMMARIES
-        → length (unread N.tree commands.now cursor) ≤ length commands.now.sums.items
-        → nodes_next N.tree first + (nodes (stack_of N.tree stack.old) + nodes (unread N.tree commands.now cursor)) < 2 ^ 32
-        → OnOk result (RisesTo (reads_on N.tree true width first (stack_of N.tree stack.old)
-        (reads_below true width false (unread N.tree commands.now cursor)) start.column start.pending) probes.old probes.new) }
-    ensures reads_at_most { probes.old ≤ 2 ^ 64 - 1 → IsTrue N.HAS_SUMMARIES
-        → length (unread N.tree commands.now cursor) ≤ length commands.now.sums.items
-        → nodes_next N.tree first + (nodes (stack_of N.tree stack.old) + nodes (unread N.tree commands.now cursor)) < 2 ^ 32
-        → probes.new ≤ probes.old + reads_on N.tree true width first (stack_of N.tree stack.old)
-        (reads_below true width false (unread N.tree commands.now cursor)) start.column start.pending }
+    ensures visits { PartCosts result ((probes.old ≤ 2 ^ 64 - 1) × IsShort N.HAS_SUMMARIES (nodes_next N.tree first)
+        (stack_of N.tree stack.old) (unread N.tree commands.now cursor) commands.now.sums.items) 0
+        (nodes_next N.tree first + (nodes (stack_of N.tree stack.old) + nodes (unread N.tree commands.now cursor)))
+        (left_at N.tree width first (probe_point (stack_of N.tree stack.old) (unread N.tree commands.now cursor) start))
+        probes.old probes.new }
 {
     let mut line = start;
     let mut below = cursor;
@@ -185,21 +165,13 @@ pub(crate) fn visit_by_sums<N: Walk>(
     ensures answer { IfOk result
         (λ r. r ≡ answer_of (look_by width summary start.column start.pending)
         (λ c p. tasks_fit width (stack_of N.tree stack.old ++ in_break (unread N.tree commands.now cursor)) c p)) }
-    ensures rises { probes.old ≤ probes.new }
-    ensures counted { probes.new
-        ≤ probes.old + (1 + (nodes (stack_of N.tree stack.old) + nodes (unread N.tree commands.now cursor))) }
-    ensures asked { OnOk result (RisesBy 1 probes.old probes.new) }
     ensures few { stack_of N.tree stack.old ≡ [] → length (unread N.tree commands.now cursor) ≤ length commands.now.sums.items
         → HaveSum (unread N.tree commands.now cursor) → probes.new ≤ probes.old + 2 }
-    ensures reads { IsTrue N.HAS_SUMMARIES → length (unread N.tree commands.now cursor) ≤ length commands.now.sums.items
-        → nodes (stack_of N.tree stack.old) + nodes (unread N.tree commands.now cursor) < 2 ^ 32
-        → OnOk result (RisesTo (1 + read_after (look_by width summary start.column start.pending)
+    ensures visits { PartCosts result (IsShort N.HAS_SUMMARIES 0 (stack_of N.tree stack.old) (unread N.tree commands.now cursor)
+        commands.now.sums.items) 1 (1 + (nodes (stack_of N.tree stack.old) + nodes (unread N.tree commands.now cursor)))
+        (1 + read_after (look_by width summary start.column start.pending)
         (reads_all true width (stack_of N.tree stack.old) (reads_below true width false (unread N.tree commands.now cursor))))
-        probes.old probes.new) }
-    ensures reads_at_most { IsTrue N.HAS_SUMMARIES → length (unread N.tree commands.now cursor) ≤ length commands.now.sums.items
-        → nodes (stack_of N.tree stack.old) + nodes (unread N.tree commands.now cursor) < 2 ^ 32
-        → probes.new ≤ probes.old + (1 + read_after (look_by width summary start.column start.pending)
-        (reads_all true width (stack_of N.tree stack.old) (reads_below true width false (unread N.tree commands.now cursor)))) }
+        probes.old probes.new }
 {
     let mut line = start;
     *probes = one_more(*probes);
@@ -227,18 +199,11 @@ pub(crate) fn visit_by_parts<N: Walk>(
     ensures answer { IfOk result
         (λ r. r ≡ tasks_fit width (task N.tree first ∷ (stack_of N.tree stack.old ++ in_break (unread N.tree commands.now cursor)))
         start.column start.pending) }
-    ensures rises { probes.old ≤ probes.new }
-    ensures counted { probes.new
-        ≤ probes.old + (size (N.tree first.node) + (nodes (stack_of N.tree stack.old) + nodes (unread N.tree commands.now cursor))) }
-    ensures asked { OnOk result (RisesBy 1 probes.old probes.new) }
-    ensures reads { IsTrue N.HAS_SUMMARIES → length (unread N.tree commands.now cursor) ≤ length commands.now.sums.items
-        → size (N.tree first.node) + (nodes (stack_of N.tree stack.old) + nodes (unread N.tree commands.now cursor)) < 2 ^ 32
-        → OnOk result (RisesTo (reads_all true width (task N.tree first ∷ stack_of N.tree stack.old)
-        (reads_below true width false (unread N.tree commands.now cursor)) start.column start.pending) probes.old probes.new) }
-    ensures reads_at_most { IsTrue N.HAS_SUMMARIES → length (unread N.tree commands.now cursor) ≤ length commands.now.sums.items
-        → size (N.tree first.node) + (nodes (stack_of N.tree stack.old) + nodes (unread N.tree commands.now cursor)) < 2 ^ 32
-        → probes.new ≤ probes.old + reads_all true width (task N.tree first ∷ stack_of N.tree stack.old)
-        (reads_below true width false (unread N.tree commands.now cursor)) start.column start.pending }
+    ensures visits { PartCosts result (IsShort N.HAS_SUMMARIES (size (N.tree first.node)) (stack_of N.tree stack.old)
+        (unread N.tree commands.now cursor) commands.now.sums.items) 1
+        (size (N.tree first.node) + (nodes (stack_of N.tree stack.old) + nodes (unread N.tree commands.now cursor)))
+        (reads_all true width (task N.tree first ∷ stack_of N.tree stack.old)
+        (reads_below true width false (unread N.tree commands.now cursor)) start.column start.pending) probes.old probes.new }
 {
     let mut line = start;
     *probes = one_more(*probes);

@@ -28,10 +28,6 @@ abbrev pub known : Option (List ℕ) → List ℕ
 known None = []
 known (Some bytes) = bytes
 
--- the bytes that are known of a sink
-abbrev pub known_of : {S : Type 0} → (S → Option (List ℕ)) → S → List ℕ
-known_of bytes sink = known (bytes sink)
-
 -- Known bytes stay known, and P holds of those before and after.
 abbrev pub IfKnown : Option (List ℕ) → Option (List ℕ) → (List ℕ → List ℕ → Type 0) → Type 0
 IfKnown old new P = IsSome old → IsSome new × P (known old) (known new)

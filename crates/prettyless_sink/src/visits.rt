@@ -1,6 +1,6 @@
-//! How many nodes a render visits. This file knows counts alone, and no nodes.
+//! What a render costs. This file knows counts alone, and no nodes.
 
-/// How many nodes were visited, and how often that was not bounded. Each count stops at the greatest `u64`.
+/// How many nodes were visited. Each count stops at the greatest `u64`.
 #[derive(Clone, Copy, Debug, Default)]
 pub struct Visits {
     /// Visits of nodes by the printer: to lay them, also in a trial that was rejected. A payload that a union rejected by
@@ -8,6 +8,13 @@ pub struct Visits {
     pub printer: u64,
     /// Visits by probes: of nodes, and of the sums of a table's printer.
     pub probes: u64,
-    /// Tables that were refused memory, which is no error. Without one, probes may visit more nodes.
+}
+
+/// What renders cost that are observed: their visits, and how often these were not bounded.
+#[derive(Clone, Copy, Debug, Default)]
+pub struct RenderCost {
+    /// The nodes that were visited.
+    pub visits: Visits,
+    /// Tables that were refused memory, which is no error. Without one, probes may visit more nodes. It stops at the greatest `u64`.
     pub refused: u64,
 }

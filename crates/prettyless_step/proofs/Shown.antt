@@ -2,10 +2,10 @@
 use Rattle.std.proofs.Common.{◌≡◌, ℕ, ◌≤◌, List, [], ◌∷◌, ◌++◌, length, ap, sym, ◌∙◌, arith, length-append}
 use Rattle.prettyless_model.specs.declared.options.RenderOptions.{RenderOptions}
 use Rattle.prettyless_model.specs.Tree.{Tree}
-use Rattle.prettyless_model.specs.Layout.{State}
+use Rattle.prettyless_model.specs.Layout.{State, Outcome, Failed as Fails, Breaks, Entry, after_bytes, and_then}
 use Rattle.prettyless_model.specs.declared.mode.Mode.{Mode}
 use Rattle.prettyless_probe.specs.Stack.{Task, make_task, follow, nodes}
-use Rattle.prettyless_step.specs.Steps.{Step, Move, Stuck, Choose, step_of}
+use Rattle.prettyless_step.specs.Steps.{Step, Move, Stuck, Choose, chosen, lay_all, step_of}
 use Rattle.prettyless_step.specs.Printing.{state_of, tasks_of, PrinterGrows, Descends, Shows, Writes}
 use Rattle.prettyless_step.specs.declared.printer.Printer.{Printer}
 use Rattle.prettyless_step.specs.declared.printer.StepResult.TheVariants.{Failed, Choice}
@@ -14,6 +14,12 @@ use Rattle.prettyless_probe.proofs.Stacks.{nodes-append}
 -- the step of a task with others after it
 abbrev pub step_at : RenderOptions → Task → List Task → State → Step
 step_at o t ts st = step_of o t.tree t.indent t.mode (follow ts) st
+
+-- what a step from a state and the tasks after it lay
+abbrev pub step_outcome : RenderOptions → Breaks → Step → List Task → List Entry → State → Outcome
+step_outcome o brk (Move b pushed u) ts outer st = after_bytes b (lay_all o brk (pushed ++ ts) outer u)
+step_outcome o brk Stuck ts outer st = Fails []
+step_outcome o brk (Choose i l r) ts outer st = and_then (chosen o brk i l r (follow ts ++ outer) st) (λ u. lay_all o brk ts outer u)
 
 -- the step writes these bytes, and leads from the tasks after it to these tasks and this state
 abbrev pub StepsTo : Step → List Task → List ℕ → List Task → State → Type 0

@@ -1,4 +1,5 @@
 -- What a step leads to has summaries where the node and the pending documents have them.
+use Rattle.std.specs.Prelude.{⊤}
 use Rattle.std.proofs.Common.{length, ℕ, List, [], ◌∷◌, ◌++◌, Bool, true, false, Option, Some, None, if◌then◌else◌}
 use Rattle.prettyless_model.specs.declared.options.RenderOptions.{RenderOptions}
 use Rattle.prettyless_model.specs.declared.options.IndentationPolicy.{IndentationPolicy}
@@ -10,8 +11,14 @@ use Rattle.prettyless_model.specs.declared.mode.Mode.{Mode}
 use Rattle.prettyless_model.specs.declared.mode.Mode.TheVariants.{Break, Flat}
 use Rattle.prettyless_summary.specs.Summary.{HasSummaries}
 use Rattle.prettyless_probe.specs.Stack.{Task, make_task, tasks}
-use Rattle.prettyless_step.specs.Steps.{StepHasSummaries, at_once, break_step, step_of, union_step, decided_by_metrics}
+use Rattle.prettyless_step.specs.Steps.{Step, Move, Stuck, Choose, at_once, break_step, step_of, union_step, decided_by_metrics}
 use Rattle.prettyless_probe.specs.Sums.{HaveSummaries, TreesHaveSummaries}
+
+-- what a step leads to has summaries
+abbrev pub StepHasSummaries : Step → Type 0
+StepHasSummaries (Move b pushed u) = HaveSummaries pushed × TreesHaveSummaries u.pending
+StepHasSummaries Stuck = ⊤
+StepHasSummaries (Choose i l r) = HasSummaries l × HasSummaries r
 
 either_has : (b : Bool) (x y : Tree) → HasSummaries x → HasSummaries y → HasSummaries (if b then x else y)
 either_has true x y h k = h

@@ -2,3 +2,4 @@ pub mod Piece
 pub mod Steps
 pub mod Reads
 pub mod Printing
+pub mod Costs

@@ -1,5 +1,5 @@
 -- What the visit of one node does, and what the tasks that are left lay.
-use Rattle.std.specs.Prelude.{ℕ, ◌+◌, ◌*◌, List, [], ◌∷◌, ◌++◌, length, ⊤, Bool, true, false, Option, Some, None, if◌then◌else◌}
+use Rattle.std.specs.Prelude.{ℕ, ◌+◌, ◌*◌, List, [], ◌∷◌, ◌++◌, length, Bool, true, false, Option, Some, None, if◌then◌else◌}
 use Rattle.prettyless_sink.specs.Sink.{rise}
 use Rattle.prettyless_model.specs.Spaces.{spaces}
 use Rattle.prettyless_model.specs.declared.options.RenderOptions.{RenderOptions}
@@ -10,13 +10,11 @@ use Rattle.prettyless_model.specs.Column.{gap, prospective, blank}
 use Rattle.prettyless_model.specs.Indent.{indent_by}
 use Rattle.prettyless_model.specs.Choice.{choice_holds}
 use Rattle.prettyless_model.specs.Look.{by_mode}
-use Rattle.prettyless_model.specs.Layout.{State, Outcome, Done, Failed, Entry, Breaks, after_bytes, and_then, lay, lay_text, lay_payload}
+use Rattle.prettyless_model.specs.Layout.{State, Outcome, Done, Failed, Entry, Breaks, and_then, lay, lay_text, lay_payload}
 use Rattle.prettyless_model.specs.Layout.{payload_fits, plain_break, probe, accept, in_trial, flushed}
 use Rattle.prettyless_model.specs.declared.mode.Mode.{Mode}
 use Rattle.prettyless_model.specs.declared.mode.Mode.TheVariants.{Break, Flat}
-use Rattle.prettyless_summary.specs.Summary.{HasSummaries}
 use Rattle.prettyless_probe.specs.Stack.{Task, make_task, tasks, follow, nodes}
-use Rattle.prettyless_probe.specs.Sums.{HaveSummaries, TreesHaveSummaries}
 
 -- the tasks in turn, each with the later ones and then `outer` following
 unfoldable pub lay_all : RenderOptions → Breaks → List Task → List Entry → State → Outcome
@@ -90,12 +88,6 @@ step_of o (t.Chosen test y n) i m rest st = Move [] (make_task i m (if choice_ho
 abbrev pub chosen : RenderOptions → Breaks → ℕ → Tree → Tree → List Entry → State → Outcome
 chosen o brk i l r rest st = accept o st.within (lay o brk l i Break rest (in_trial st)) (lay o brk r i Break rest st)
 
--- what a step from a state and the tasks after it lay
-abbrev pub step_outcome : RenderOptions → Breaks → Step → List Task → List Entry → State → Outcome
-step_outcome o brk (Move b pushed u) ts outer st = after_bytes b (lay_all o brk (pushed ++ ts) outer u)
-step_outcome o brk Stuck ts outer st = Failed []
-step_outcome o brk (Choose i l r) ts outer st = and_then (chosen o brk i l r (follow ts ++ outer) st) (λ u. lay_all o brk ts outer u)
-
 -- twice the nodes of each pending document, and one more
 abbrev pub pending_work : List Tree → ℕ
 pending_work [] = 0
@@ -104,9 +96,3 @@ pending_work (d ∷ ds) = 2 * size d + 1 + pending_work ds
 -- the work that is left: it falls at each step
 abbrev pub work : List Task → State → ℕ
 work ts st = 2 * nodes ts + pending_work st.pending
-
--- what a step leads to has summaries
-abbrev pub StepHasSummaries : Step → Type 0
-StepHasSummaries (Move b pushed u) = HaveSummaries pushed × TreesHaveSummaries u.pending
-StepHasSummaries Stuck = ⊤
-StepHasSummaries (Choose i l r) = HasSummaries l × HasSummaries r

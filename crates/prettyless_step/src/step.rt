@@ -1,20 +1,18 @@
 //! What the visit of one node does.
 //! This file knows nodes by `Walk` alone, and no trials and no sink. Only here are probes started.
-ghost use Rattle.std.specs.Prelude.{◌≡◌, ◌+◌, ◌∷◌, ◌≤◌, ◌<◌, ◌^◌, ◌&&◌, [], false, true, IfOk, IsFalse, IsTrue, OnOk, if◌then◌else◌};
-ghost use Rattle.prettyless_model.specs.Tree.{size};
-ghost use Rattle.prettyless_model.specs.Look.{by_mode};
+ghost use Rattle.std.specs.Prelude.{◌≡◌, ◌≤◌, ◌<◌, ◌^◌, ◌&&◌, false, true, IfOk, IsFalse, IsTrue, OnOk};
+ghost use Rattle.prettyless_model.specs.Tree.{Group, PartialUnion};
 ghost use Rattle.prettyless_model.specs.Content.{suffix_depth};
-ghost use Rattle.prettyless_model.specs.Counts.{each_probe};
 ghost use Rattle.prettyless_model.specs.Layout.{is_suppressed, lay_ending, some_pending, next_indent, probe as probe_of};
 ghost use Rattle.prettyless_model.specs.declared.mode.Mode.TheVariants.{Break, Flat};
-ghost use Rattle.prettyless_probe.specs.Stack.{make_task, nodes, room_of};
-ghost use Rattle.prettyless_step.specs.Steps.{Move, at_once, break_step, counted_payload, decided_by_metrics, is_rejected};
-ghost use Rattle.prettyless_step.specs.Steps.{rejects_payload, step_of, union_step};
+ghost use Rattle.prettyless_probe.specs.Stack.{room_of};
+ghost use Rattle.prettyless_step.specs.Steps.{at_once, break_step, counted_payload, decided_by_metrics, is_rejected, step_of, union_step};
 ghost use Rattle.prettyless_step.specs.Piece.{piece_bytes};
-ghost use Rattle.prettyless_step.specs.Printing.{IsStepped, IsSteppedOrRefused, IsStopped, Shows, Writes, following, state_of, tasks_of};
-ghost use Rattle.prettyless_probe.specs.Probing.{Few, RisesBy, asked, is_fit};
-ghost use Rattle.prettyless_probe.specs.Reads.{IsFew, RisesTo};
-ghost use Rattle.prettyless_step.specs.Reads.{reads_here, step_reads};
+ghost use Rattle.prettyless_step.specs.Printing.{IsStopped, Shows, Writes, following, state_of, tasks_of};
+ghost use Rattle.prettyless_probe.specs.Costs.{ProbeCosts};
+ghost use Rattle.prettyless_probe.specs.Probing.{is_fit};
+ghost use Rattle.prettyless_step.specs.Costs.{StepCosts};
+ghost use Rattle.prettyless_step.specs.Reads.{reads_here};
 ghost use Rattle.prettyless_probe.specs.Texts.{IsTexts, texts_waiting};
 ghost use Rattle.prettyless_probe.specs.declared.probe.Fit.TheVariants.{FitsAsTexts};
 ghost use Rattle.prettyless_probe.specs.Sums.{IsSummed};
@@ -51,16 +49,9 @@ fn probe_here<N: Walk>(
     ensures texts { IfOk result (λ fit. fit ≡ FitsAsTexts → (mode ≡ Flat) × IsTexts (N.tree node)) }
     ensures room { IfOk result (λ fit. fit ≡ FitsAsTexts → texts_waiting (N.tree node) 0 ≤ room_of printer.new.scratch) }
     ensures others { printer.new ≡ record printer.old { scratch = printer.new.scratch } }
-    ensures rises { probes.old ≤ probes.new }
-    ensures counted { probes.new ≤ probes.old + (size (N.tree node) + nodes (tasks_of N.tree printer.old)) }
-    ensures asked { OnOk result (RisesBy 1 probes.old probes.new) }
-    ensures few { Few N.HAS_SUMMARIES (N.tree node) (tasks_of N.tree printer.old) 1 probes.old probes.new }
-    ensures reads { IsFew N.HAS_SUMMARIES (N.tree node) (tasks_of N.tree printer.old) → OnOk result (RisesTo
+    ensures visits { ProbeCosts result N.HAS_SUMMARIES (N.tree node) (tasks_of N.tree printer.old)
         (reads_here N.HAS_SUMMARIES probes.old printer.old.options (N.tree node) indent mode (tasks_of N.tree printer.old)
-        (state_of N.tree printer.old)) probes.old probes.new) }
-    ensures reads_at_most { IsFew N.HAS_SUMMARIES (N.tree node) (tasks_of N.tree printer.old) → probes.new
-        ≤ probes.old + reads_here N.HAS_SUMMARIES probes.old printer.old.options (N.tree node) indent mode (tasks_of N.tree printer.old)
-        (state_of N.tree printer.old) }
+        (state_of N.tree printer.old)) probes.old probes.new }
 {
     let start = ProbeLine {
         column: printer.column,
@@ -76,43 +67,6 @@ fn probe_here<N: Walk>(
         &mut printer.scratch,
         probes,
     )
-}
-
-// The branch of a partial union that is laid.
-fn partial_choice<N: Walk>(
-    printer: &mut Printer<N>,
-    indent: usize,
-    mode: Mode,
-    first: N,
-    second: N,
-    probes: &mut u64,
-) -> Result<N, AllocError>
-    requires { IsSummed N.HAS_SUMMARIES N.tree printer.old.commands }
-    ensures branch { IfOk result (λ n. N.tree n ≡ by_mode mode
-        (if probe_of printer.old.options (N.tree first) indent Break (following N.tree printer.old) (state_of N.tree printer.old)
-        then N.tree first else N.tree second)
-        (N.tree first)) }
-    ensures others { printer.new ≡ record printer.old { scratch = printer.new.scratch } }
-    ensures rises { probes.old ≤ probes.new }
-    ensures counted { probes.new ≤ probes.old + by_mode mode (size (N.tree first) + nodes (tasks_of N.tree printer.old)) 0 }
-    ensures asked { OnOk result (RisesBy (by_mode mode 1 0) probes.old probes.new) }
-    ensures few { Few N.HAS_SUMMARIES (N.tree first) (tasks_of N.tree printer.old) (by_mode mode 1 0)
-        probes.old probes.new }
-    ensures reads { mode ≡ Break → IsFew N.HAS_SUMMARIES (N.tree first) (tasks_of N.tree printer.old)
-        → OnOk result (RisesTo
-        (reads_here N.HAS_SUMMARIES probes.old printer.old.options (N.tree first) indent Break (tasks_of N.tree printer.old)
-        (state_of N.tree printer.old)) probes.old probes.new) }
-    ensures reads_at_most { IsFew N.HAS_SUMMARIES (N.tree first) (tasks_of N.tree printer.old) → probes.new
-        ≤ probes.old + by_mode mode (reads_here N.HAS_SUMMARIES probes.old printer.old.options (N.tree first) indent Break
-        (tasks_of N.tree printer.old) (state_of N.tree printer.old)) 0 }
-{
-    if let Mode::Flat = mode {
-        return Ok(first);
-    }
-    match probe_here(printer, first, indent, Mode::Break, probes)? {
-        Fit::Exceeds => Ok(second),
-        Fit::Fits | Fit::FitsAsTexts => Ok(first),
-    }
 }
 
 // What decides between the branches of a union before one is laid: the metrics of a first one that is a payload.
@@ -213,44 +167,28 @@ fn is_past_limit(probes: u64, limit: u64) -> bool
 
 // A group, whose document is laid flat where it fits. No probe is started where probes are past the limit.
 #[inline(always)]
-#[tactic(auto, using(prettyless_probe::proofs::Sizes::size_positive))]
 fn group<N: Walk>(
     printer: &mut Printer<N>,
     indent: usize,
     mode: Mode,
     inner: N,
     limit: u64,
-    probes: &mut u64,
+    visits: &mut Visits,
 ) -> Result<StepResult<'static, N>, AllocError>
     requires { IsSummed N.HAS_SUMMARIES N.tree printer.old.commands }
     ensures step { IfOk result (λ taken. Shows N.tree mode taken
-        (Move [] (make_task indent (by_mode mode
-        (if probe_of printer.old.options (N.tree inner) indent Flat (following N.tree printer.old) (state_of N.tree printer.old)
-        then Flat else Break)
-        Flat) (N.tree inner) ∷ []) (state_of N.tree printer.old))
+        (step_of printer.old.options (Group (N.tree inner)) indent mode (following N.tree printer.old) (state_of N.tree printer.old))
         printer.old printer.new) }
-    ensures rises { probes.old ≤ probes.new }
-    ensures counted { probes.new ≤ probes.old + by_mode mode (size (N.tree inner) + nodes (tasks_of N.tree printer.old)) 0 }
-    ensures asked { IfOk result (λ taken. IsStepped taken → RisesBy (by_mode mode 1 0) probes.old probes.new) }
-    ensures past { IfOk result (λ taken. IsStopped taken → (limit < probes.old) × (probes.old < 2 ^ 64) × (probes.new ≡ probes.old)) }
-    ensures within { IsSteppedOrRefused result → 0 < by_mode mode 1 0 → probes.old ≤ limit }
-    ensures few { Few N.HAS_SUMMARIES (N.tree inner) (tasks_of N.tree printer.old) (by_mode mode 1 0)
-        probes.old probes.new }
-    ensures reads { mode ≡ Break → IsFew N.HAS_SUMMARIES (N.tree inner) (tasks_of N.tree printer.old)
-        → IfOk result (λ taken. IsStepped taken → RisesTo
-        (reads_here N.HAS_SUMMARIES probes.old printer.old.options (N.tree inner) indent Flat (tasks_of N.tree printer.old)
-        (state_of N.tree printer.old)) probes.old probes.new) }
-    ensures reads_at_most { IsFew N.HAS_SUMMARIES (N.tree inner) (tasks_of N.tree printer.old) → probes.new
-        ≤ probes.old + by_mode mode (reads_here N.HAS_SUMMARIES probes.old printer.old.options (N.tree inner) indent Flat
-        (tasks_of N.tree printer.old) (state_of N.tree printer.old)) 0 }
+    ensures visits { StepCosts result N.HAS_SUMMARIES printer.old.options (Group (N.tree inner)) indent mode
+        (tasks_of N.tree printer.old) (state_of N.tree printer.old) limit visits.old visits.new }
     ensures queue { printer.new.queue ≡ printer.old.queue }
     ensures summed { OnOk result (IsSummed N.HAS_SUMMARIES N.tree printer.new.commands) }
 {
     if let Mode::Break = mode {
-        if is_past_limit(*probes, limit) {
+        if is_past_limit(visits.probes, limit) {
             return Ok(StepResult::Shift);
         }
-        match probe_here(printer, inner, indent, Mode::Flat, probes)? {
+        match probe_here(printer, inner, indent, Mode::Flat, &mut visits.probes)? {
             Fit::Exceeds => return Ok(StepResult::Descend(indent, inner)),
             // A break alone is laid as soon by the printer's own loop.
             Fit::FitsAsTexts => match inner.view() {
@@ -265,7 +203,7 @@ fn group<N: Walk>(
     Ok(StepResult::DescendFlat(indent, inner))
 }
 
-// A partial union: the first document where it fits.
+// A partial union: the first document where it fits. No probe is started where probes are past the limit.
 #[inline(always)]
 fn partial_union<N: Walk>(
     printer: &mut Printer<N>,
@@ -274,37 +212,28 @@ fn partial_union<N: Walk>(
     first: N,
     second: N,
     limit: u64,
-    probes: &mut u64,
+    visits: &mut Visits,
 ) -> Result<StepResult<'static, N>, AllocError>
     requires { IsSummed N.HAS_SUMMARIES N.tree printer.old.commands }
     ensures step { IfOk result (λ taken. Shows N.tree mode taken
-        (Move [] (make_task indent mode (by_mode mode
-        (if probe_of printer.old.options (N.tree first) indent Break (following N.tree printer.old) (state_of N.tree printer.old)
-        then N.tree first else N.tree second)
-        (N.tree first)) ∷ []) (state_of N.tree printer.old))
-        printer.old printer.new) }
-    ensures rises { probes.old ≤ probes.new }
-    ensures counted { probes.new ≤ probes.old + by_mode mode (size (N.tree first) + nodes (tasks_of N.tree printer.old)) 0 }
-    ensures asked { IfOk result (λ taken. IsStepped taken → RisesBy (by_mode mode 1 0) probes.old probes.new) }
-    ensures past { IfOk result (λ taken. IsStopped taken → (limit < probes.old) × (probes.old < 2 ^ 64) × (probes.new ≡ probes.old)) }
-    ensures within { IsSteppedOrRefused result → 0 < by_mode mode 1 0 → probes.old ≤ limit }
-    ensures few { Few N.HAS_SUMMARIES (N.tree first) (tasks_of N.tree printer.old) (by_mode mode 1 0)
-        probes.old probes.new }
-    ensures reads { mode ≡ Break → IsFew N.HAS_SUMMARIES (N.tree first) (tasks_of N.tree printer.old)
-        → IfOk result (λ taken. IsStepped taken → RisesTo
-        (reads_here N.HAS_SUMMARIES probes.old printer.old.options (N.tree first) indent Break (tasks_of N.tree printer.old)
-        (state_of N.tree printer.old)) probes.old probes.new) }
-    ensures reads_at_most { IsFew N.HAS_SUMMARIES (N.tree first) (tasks_of N.tree printer.old) → probes.new
-        ≤ probes.old + by_mode mode (reads_here N.HAS_SUMMARIES probes.old printer.old.options (N.tree first) indent Break
-        (tasks_of N.tree printer.old) (state_of N.tree printer.old)) 0 }
+        (step_of printer.old.options (PartialUnion (N.tree first) (N.tree second)) indent mode
+        (following N.tree printer.old) (state_of N.tree printer.old)) printer.old printer.new) }
+    ensures visits { StepCosts result N.HAS_SUMMARIES printer.old.options (PartialUnion (N.tree first) (N.tree second)) indent mode
+        (tasks_of N.tree printer.old) (state_of N.tree printer.old) limit visits.old visits.new }
     ensures queue { printer.new.queue ≡ printer.old.queue }
     ensures summed { OnOk result (IsSummed N.HAS_SUMMARIES N.tree printer.new.commands) }
 {
-    if matches!(mode, Mode::Break) && is_past_limit(*probes, limit) {
+    if let Mode::Flat = mode {
+        return Ok(StepResult::Descend(indent, first));
+    }
+    let is_past = is_past_limit(visits.probes, limit);
+    if is_past {
         return Ok(StepResult::Shift);
     }
-    let chosen = partial_choice(printer, indent, mode, first, second, probes)?;
-    Ok(StepResult::Descend(indent, chosen))
+    match probe_here(printer, first, indent, Mode::Break, &mut visits.probes)? {
+        Fit::Exceeds => Ok(StepResult::Descend(indent, second)),
+        Fit::Fits | Fit::FitsAsTexts => Ok(StepResult::Descend(indent, first)),
+    }
 }
 
 // A union in Break: the metrics of its first branch decide, or a trial is needed. A payload that they reject is a visit.
@@ -358,27 +287,8 @@ pub fn step<'v, N: Walk>(
         (step_of printer.old.options (N.tree node.now) indent mode
         (following N.tree printer.old) (state_of N.tree printer.old))
         printer.old printer.new) }
-    ensures printer { visits.new.printer
-        ≡ counted_payload (rejects_payload printer.old.options (N.tree node.now) mode (state_of N.tree printer.old)) visits.old.printer }
-    ensures rises { visits.old.probes ≤ visits.new.probes }
-    ensures counted { visits.new.probes ≤ visits.old.probes + asked (N.tree node.now) mode (nodes (tasks_of N.tree printer.old)) }
-    ensures asked { IfOk result (λ taken. IsStepped taken
-        → RisesBy (each_probe (N.tree node.now) mode) visits.old.probes visits.new.probes) }
-    ensures past { IfOk result (λ taken. IsStopped taken → (limit < visits.old.probes) × (visits.old.probes < 2 ^ 64)
-        × (visits.new ≡ visits.old)) }
-    ensures within { IsSteppedOrRefused result → 0 < each_probe (N.tree node.now) mode → visits.old.probes ≤ limit }
-    ensures few { Few N.HAS_SUMMARIES (N.tree node.now) (tasks_of N.tree printer.old)
-        (each_probe (N.tree node.now) mode)
-        visits.old.probes visits.new.probes }
-    ensures reads { 0 < each_probe (N.tree node.now) mode
-        → IsFew N.HAS_SUMMARIES (N.tree node.now) (tasks_of N.tree printer.old)
-        → IfOk result (λ taken. IsStepped taken → RisesTo
-        (step_reads N.HAS_SUMMARIES visits.old.probes printer.old.options (N.tree node.now) indent mode (tasks_of N.tree printer.old)
-        (state_of N.tree printer.old)) visits.old.probes visits.new.probes) }
-    ensures reads_at_most { IsFew N.HAS_SUMMARIES (N.tree node.now) (tasks_of N.tree printer.old)
-        → visits.new.probes ≤ visits.old.probes
-        + step_reads N.HAS_SUMMARIES visits.old.probes printer.old.options (N.tree node.now) indent mode
-        (tasks_of N.tree printer.old) (state_of N.tree printer.old) }
+    ensures visits { StepCosts result N.HAS_SUMMARIES printer.old.options (N.tree node.now) indent mode
+        (tasks_of N.tree printer.old) (state_of N.tree printer.old) limit visits.old visits.new }
     ensures queue { suffix_depth (N.tree node.now) ≡ 0 → some_pending (state_of N.tree printer.old).pending ≡ false
         → printer.new.queue ≡ printer.old.queue }
     ensures summed { OnOk result (IsSummed N.HAS_SUMMARIES N.tree printer.new.commands) }
@@ -417,13 +327,13 @@ pub fn step<'v, N: Walk>(
         )),
         View::One(Single::Flatten, d) => Ok(StepResult::DescendFlat(indent, d)),
         View::Two(Pair::BreakOrFlat, b, f) => Ok(StepResult::Descend(indent, either(mode, b, f))),
-        View::One(Single::Group, d) => group(printer, indent, mode, d, limit, &mut visits.probes),
+        View::One(Single::Group, d) => group(printer, indent, mode, d, limit, visits),
         View::Two(Pair::Union, l, r) => match mode {
             Mode::Break => union(printer, indent, l, r, visits),
             Mode::Flat => Ok(StepResult::DescendFlat(indent, l)),
         },
         View::Two(Pair::PartialUnion, l, r) => {
-            partial_union(printer, indent, mode, l, r, limit, &mut visits.probes)
+            partial_union(printer, indent, mode, l, r, limit, visits)
         }
         View::Two(Pair::Chosen(ChoiceTest::OnColumn(test)), l, r) => {
             Ok(StepResult::Descend(indent, by_column(test, printer.column, indent, l, r)))

@@ -65,17 +65,26 @@ fn compare_few(alloc: Global, found: Visits) -> Result<(), Refusal> {
     Err(differs(alloc, "visits: ", "few", found.as_str()))
 }
 
-// Compares the layout over a table with the one over the nodes, and its visits with what the line states of them.
+// Compares the layout over a table with the one over the nodes, and its visits with what the line states of them. Where they are those
+// over the nodes instead, the table was refused memory.
 fn compare_over_table<'a, T: DocPtr<'a>>(
     alloc: Global,
     case: &ReadCase<T>,
     stated: &str,
     counts: Option<VisitCounts>,
+    over_nodes: Visits,
 ) -> Result<(), Refusal> {
     let (found, visits) = laid_out(alloc, Over::Table, case)?;
     let found = found.words(alloc)?;
     compare(alloc, "over a table: ", stated, found.as_str())?;
-    compare_visits(alloc, "over a table: visits: ", counts, visits)
+    let compared = compare_visits(alloc, "over a table: visits: ", counts, visits);
+    if compared.is_err()
+        && visits.printer == over_nodes.printer
+        && visits.probes == over_nodes.probes
+    {
+        return Err(Refusal::OutOfMemory);
+    }
+    compared
 }
 
 // Compares what the line states besides the outcome.
@@ -133,7 +142,7 @@ where
     }
     let counts = statement.and_then(|statement| statement.table);
     if trials.over_table || counts.is_some() {
-        compare_over_table(alloc, &case, found.as_str(), counts)?;
+        compare_over_table(alloc, &case, found.as_str(), counts, visits)?;
     }
     let is_short = is_short(&outcome, visits);
     if trials.hostile && is_short {

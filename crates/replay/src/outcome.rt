@@ -2,7 +2,7 @@
 use crate::case::ReadCase;
 use crate::refusal::Refusal;
 use crate::text::word_of;
-use prettyless::{DocPtr, FmtWrite, RenderError, Visits};
+use prettyless::{DocPtr, FmtWrite, RenderCost, RenderError, Visits};
 use std::alloc::{AllocError, Global};
 
 /// Which nodes a render begins with.
@@ -52,14 +52,14 @@ pub fn laid_out<'a, T: DocPtr<'a>>(
 ) -> Result<(Outcome, Visits), Refusal> {
     let mut bytes = String::new(alloc);
     let mut sink = FmtWrite::new(&mut bytes);
-    let mut visits = Visits::default();
+    let mut cost = RenderCost::default();
     let document = case.document.doc();
     let ending = match over {
         Over::Document => {
-            document.render_raw_observed_with(alloc, case.options, &mut sink, &mut visits)
+            document.render_raw_observed_with(alloc, case.options, &mut sink, &mut cost)
         }
         Over::Table => {
-            document.render_raw_counted_with(alloc, case.options, &mut sink, &mut visits)
+            document.render_raw_counted_with(alloc, case.options, &mut sink, &mut cost.visits)
         }
     };
     let fails = match ending {
@@ -67,9 +67,9 @@ pub fn laid_out<'a, T: DocPtr<'a>>(
         Err(RenderError::Document(_)) => true,
         Err(_) => return Err(Refusal::OutOfMemory),
     };
-    // A table that was refused memory.
-    if visits.refused > 0 {
+    // A table that was refused memory. The call over a table does not say so.
+    if cost.refused > 0 {
         return Err(Refusal::OutOfMemory);
     }
-    Ok((Outcome { fails, bytes }, visits))
+    Ok((Outcome { fails, bytes }, cost.visits))
 }

@@ -39,3 +39,5 @@ mod sizes;
 mod texts;
 #[cfg(test)]
 mod values;
+#[cfg(test)]
+mod visits;

@@ -21,6 +21,13 @@ fn a_text_is_taken_whole(rt: HostRuntime) {
 }
 
 #[test]
+fn a_byte_writer_takes_a_text_whole(rt: HostRuntime) {
+    let mut bytes: Vec<u8> = Vec::new(rt.alloc());
+    assert!(rt; matches!(IoWrite::new(&mut bytes).write_str("é"), Ok(2)));
+    assert!(rt; bytes.as_slice() == "é".as_bytes());
+}
+
+#[test]
 fn a_document_that_fails_is_of_kind_other(rt: HostRuntime) {
     let mut bytes: Vec<u8> = Vec::new(rt.alloc());
     let sink = IoWrite::new(&mut bytes);

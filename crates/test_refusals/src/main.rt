@@ -111,8 +111,10 @@ fn print_counted<R: AllocGlobal + Print>(rt: &R) -> Option<()> {
         None => count(rt.alloc(), &pair)?,
         Some(visits) => visits,
     };
-    let probes = if visits.refused == 0 { 1 } else { 6 };
-    if visits.printer != 7 || visits.probes != probes {
+    let Visits { printer: 7, probes } = visits else {
+        return None;
+    };
+    if probes != 1 && probes != 6 {
         return None;
     }
     let name = COUNTED.name();

@@ -1,7 +1,7 @@
 //! The calls that render or print.
 use crate::hostile::writer::{Fault, Step, Writer, Wrong};
 use prettyless::{
-    Doc, DocPtr, FmtWrite, IoWrite, OpaqueWriter, RenderError, RenderOptions, Visits,
+    Doc, DocPtr, FmtWrite, IoWrite, OpaqueWriter, RenderCost, RenderError, RenderOptions,
 };
 use std::alloc::{AllocError, Global};
 use std::fmt::Write;
@@ -150,14 +150,14 @@ pub struct Laying<'d, 'a, T> {
 impl<'a, T: DocPtr<'a>> Laying<'_, 'a, T> {
     fn to_sink(&self, call: SinkCall, sink: &mut Writer) -> Result<(), RenderError<Fault>> {
         let (alloc, document, options) = (self.alloc, self.document, self.options);
-        let mut visits = Visits::default();
+        let mut cost = RenderCost::default();
         match call {
             SinkCall::RawWith => document.render_raw_with(alloc, options, sink),
             SinkCall::Observed => {
-                document.render_raw_observed_with(alloc, options, sink, &mut visits)
+                document.render_raw_observed_with(alloc, options, sink, &mut cost)
             }
             SinkCall::Counted => {
-                document.render_raw_counted_with(alloc, options, sink, &mut visits)
+                document.render_raw_counted_with(alloc, options, sink, &mut cost.visits)
             }
             SinkCall::Raw => document.render_raw(alloc, options.width, sink),
         }

@@ -1,6 +1,5 @@
 use Rattle.std.proofs.Common.{◌≡◌, suc, ◌-◌, ◌<◌, [], ◌∷◌, reverse, sym, ap, ◌∙◌, arith}
-use Rattle.json_validity.specs.Open.{after_lists}
-use Rattle.json_validity.proofs.Open.{closes, goes_on, no_value, one_list, opens, reverse_push, stops, too_deep}
+use Rattle.json_validity.proofs.Open.{after_lists, closes, goes_on, no_value, one_list, opens, reverse_push, stops, too_deep}
 use Rattle.json_validity.proofs.text.pass_list.Goals as goal
 
 pub loop-reader-init : goal.loop-reader-init

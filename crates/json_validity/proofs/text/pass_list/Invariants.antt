@@ -1,5 +1,6 @@
 use Rattle.std.proofs.Common.{◌≡◌, ℕ, ◌+◌, ◌-◌, ◌∷◌, length, reverse}
-use Rattle.json_validity.specs.Open.{after_list, after_lists}
+use Rattle.json_validity.specs.Open.{after_list}
+use Rattle.json_validity.proofs.Open.{after_lists}
 use Rattle.json_validity.proofs.text.pass_list.Given as goal
 
 -- what is left after the lists that are open is what is left after the outermost one

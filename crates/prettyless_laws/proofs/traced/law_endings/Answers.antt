@@ -1,4 +1,4 @@
-use Rattle.prettyless_laws.proofs.Widths.{traces_go_by_width}
+use Rattle.prettyless_laws.proofs.OneWidth.{traces_go_by_width}
 use Rattle.prettyless_laws.proofs.traced.law_endings.Goals as goal
 
 pub returns : goal.returns

@@ -14,10 +14,11 @@ returns-in-Ok-clause-renders g c =
     let ran = c.run_with_shift-result in
     let fails = g.W.Render.document_errors ran.new.out in
     let before = c.in-Ok.ensures.visits in
-    subst (λ (v : Visits). Renders fails c.args.options (g.N.Walk.tree c.args.node) (see c.args.out.now) (see ran.new.out) v
-    (record ran.new.self.visits { refused = ran.new.refused }) ran.result) before
-    (begun_renders fails ran.new.refused ran.result c.in-Ok.ensures.begins ran.ensures.ends.1
-    (omega (arith, ran.ensures.rises, ap (λ (v : Visits). v.refused) before)) ran.ensures.few)
+    subst (λ (v : Visits). Renders fails c.args.options (g.N.Walk.tree c.args.node) (see c.args.out.now) (see ran.new.out)
+    (record { visits = v; refused = c.args.cost.now.refused })
+    (record { visits = ran.new.self.visits; refused = ran.new.refused }) ran.result) before
+    (begun_renders fails c.args.cost.now.refused ran.new.refused ran.result c.in-Ok.ensures.begins ran.ensures.ends.1
+    ran.ensures.rises ran.ensures.few)
 
 pub returns-in-Ok-clause-twice : goal.returns-in-Ok-clause-twice
 returns-in-Ok-clause-twice g c = λ linear small none.
@@ -32,4 +33,4 @@ returns-in-Ok-clause-twice g c = λ linear small none.
 pub returns-in-Err-clause-renders : goal.returns-in-Err-clause-renders
 returns-in-Err-clause-renders g c =
     refused_renders (g.W.Render.document_errors c.args.out.now) c.args.options (g.N.Walk.tree c.args.node)
-    (seen_by g.W.Render c.args.out.now) c.args.visits.now _
+    (seen_by g.W.Render c.args.out.now) c.args.cost.now _

@@ -55,14 +55,16 @@ down-preserved-in-Ok-Descend g c =
     let n = c.one_more-count.result in
     let x = visited_more n c.step.new.visits in
     let hand = c.down.invariant.hand in
-    let one = visit f c.down.count c.down.visits c.down.printer c.step.new.visits n hand c.one_more-count.ensures.one c.step.ensures.printer
-    c.step.ensures.rises c.step.ensures.counted in
+    let one = visit f c.down.count c.down.visits c.down.printer c.step.new.visits n hand c.one_more-count.ensures.one
+    c.step.ensures.visits.printer
+    c.step.ensures.visits.rises c.step.ensures.visits.counted in
     let took = takes f c.down.printer hand one
-    (c.in-Ok-Descend.ensures.within (subst IsStepped (sym c.in-Ok-Descend.field-0-is) tt)) c.step.ensures.counted c.step.ensures.few
+    (c.in-Ok-Descend.ensures.visits.within (subst IsStepped (sym c.in-Ok-Descend.field-0-is) tt))
+    c.step.ensures.visits.counted c.step.ensures.visits.few
     c.down.invariant.spends in
     record {
       hand = goes_down f c.down.printer q x c.in-Ok-Descend.next_indent c.down.mode c.in-Ok-Descend.next hand one
-          (c.in-Ok-Descend.ensures.asked (subst IsStepped (sym c.in-Ok-Descend.field-0-is) tt))
+          (c.in-Ok-Descend.ensures.visits.asked (subst IsStepped (sym c.in-Ok-Descend.field-0-is) tt))
           (shown f c.down.printer q c.in-Ok-Descend.field-0 (step_result.Descend c.in-Ok-Descend.next_indent c.in-Ok-Descend.next) hand
           c.in-Ok-Descend.field-0-is c.in-Ok-Descend.ensures.step);
       summed = c.in-Ok-Descend.ensures.summed;
@@ -86,14 +88,15 @@ down-preserved g c =
     let x = visited_more n c.step.new.visits in
     let hand = c.down.invariant.hand in
     let one = visit f c.down.count c.down.visits c.down.printer c.step.new.visits n hand
-    c.one_more-count-in-Ok-DescendFlat.ensures.one c.step.ensures.printer
-    c.step.ensures.rises c.step.ensures.counted in
+    c.one_more-count-in-Ok-DescendFlat.ensures.one c.step.ensures.visits.printer
+    c.step.ensures.visits.rises c.step.ensures.visits.counted in
     let took = takes f c.down.printer hand one
-    (c.in-Ok-DescendFlat.ensures.within (subst IsStepped (sym c.in-Ok-DescendFlat.field-0-is) tt)) c.step.ensures.counted c.step.ensures.few
+    (c.in-Ok-DescendFlat.ensures.visits.within (subst IsStepped (sym c.in-Ok-DescendFlat.field-0-is) tt))
+    c.step.ensures.visits.counted c.step.ensures.visits.few
     c.down.invariant.spends in
     record {
       hand = goes_down f c.down.printer q x c.in-Ok-DescendFlat.next_indent Flat c.in-Ok-DescendFlat.next hand one
-          (c.in-Ok-DescendFlat.ensures.asked (subst IsStepped (sym c.in-Ok-DescendFlat.field-0-is) tt))
+          (c.in-Ok-DescendFlat.ensures.visits.asked (subst IsStepped (sym c.in-Ok-DescendFlat.field-0-is) tt))
           (shown f c.down.printer q c.in-Ok-DescendFlat.field-0 (step_result.DescendFlat c.in-Ok-DescendFlat.next_indent
           c.in-Ok-DescendFlat.next) hand
           c.in-Ok-DescendFlat.field-0-is c.in-Ok-DescendFlat.ensures.step);
@@ -121,8 +124,8 @@ returns-in-Ok-lay_texts-clause-advances g c =
     let n = c.in-Ok-DescendTexts.next in
     let hand = c.down.invariant.hand in
     let one = visit f c.down.count c.down.visits c.down.printer c.step.new.visits k hand c.one_more-in-Ok-DescendTexts.ensures.one
-    c.step.ensures.printer
-    c.step.ensures.rises c.step.ensures.counted in
+    c.step.ensures.visits.printer
+    c.step.ensures.visits.rises c.step.ensures.visits.counted in
     let lays = rw c.count_more-in-Ok-DescendTexts.ensures.more at c.lay_texts.ensures.lays in
     subst (λ (z : Result (Unit {0}) g.row.W-Error.Denot). Advances f
     (point f c.args.printer.now (see c.args.out.now) c.args.visits.now)
@@ -131,7 +134,7 @@ returns-in-Ok-lay_texts-clause-advances g c =
     (subst (λ (z : Standing). Laying (point f c.args.printer.now (see c.args.out.now) c.args.visits.now) (make_task i Flat (f n) ∷ [])
     (point_at z (see c.down.out) x)) (sym (ap (standing f) c.make_room.ensures.others))
     (laying_begins f c.down.printer q x i n hand one
-    (c.in-Ok-DescendTexts.ensures.asked (subst IsStepped (sym c.in-Ok-DescendTexts.field-0-is) tt))
+    (c.in-Ok-DescendTexts.ensures.visits.asked (subst IsStepped (sym c.in-Ok-DescendTexts.field-0-is) tt))
     (shown f c.down.printer q c.in-Ok-DescendTexts.field-0 (step_result.DescendTexts i n) hand c.in-Ok-DescendTexts.field-0-is
     c.in-Ok-DescendTexts.ensures.step).0)))
 
@@ -146,11 +149,11 @@ returns-in-Ok-lay_texts-clause-spends g c =
     let laid = c.lay_texts.ensures in
     let hand = c.down.invariant.hand in
     let one = visit f c.down.count c.down.visits c.down.printer c.step.new.visits k hand c.one_more-in-Ok-DescendTexts.ensures.one
-    c.step.ensures.printer
-    c.step.ensures.rises c.step.ensures.counted in
+    c.step.ensures.visits.printer
+    c.step.ensures.visits.rises c.step.ensures.visits.counted in
     let took = takes f c.down.printer hand one
-    (c.in-Ok-DescendTexts.ensures.within (subst IsStepped (sym c.in-Ok-DescendTexts.field-0-is) tt)) c.step.ensures.counted
-    c.step.ensures.few
+    (c.in-Ok-DescendTexts.ensures.visits.within (subst IsStepped (sym c.in-Ok-DescendTexts.field-0-is) tt)) c.step.ensures.visits.counted
+    c.step.ensures.visits.few
     c.down.invariant.spends in
     let probes = rw c.count_more-in-Ok-DescendTexts.ensures.more at laid.probes in
     let rises = rw c.count_more-in-Ok-DescendTexts.ensures.more at laid.rises in
@@ -175,8 +178,8 @@ returns-in-Err-lay_texts-clause-advances g c =
     let n = c.in-Ok-DescendTexts.next in
     let hand = c.down.invariant.hand in
     let one = visit f c.down.count c.down.visits c.down.printer c.step.new.visits k hand c.one_more-in-Ok-DescendTexts.ensures.one
-    c.step.ensures.printer
-    c.step.ensures.rises c.step.ensures.counted in
+    c.step.ensures.visits.printer
+    c.step.ensures.visits.rises c.step.ensures.visits.counted in
     let lays = rw c.count_more-in-Ok-DescendTexts.ensures.more at c.lay_texts.ensures.lays in
     subst (λ (z : Result (Unit {0}) g.row.W-Error.Denot). Advances f
     (point f c.args.printer.now (see c.args.out.now) c.args.visits.now)
@@ -185,7 +188,7 @@ returns-in-Err-lay_texts-clause-advances g c =
     (subst (λ (z : Standing). Laying (point f c.args.printer.now (see c.args.out.now) c.args.visits.now) (make_task i Flat (f n) ∷ [])
     (point_at z (see c.down.out) x)) (sym (ap (standing f) c.make_room.ensures.others))
     (laying_begins f c.down.printer q x i n hand one
-    (c.in-Ok-DescendTexts.ensures.asked (subst IsStepped (sym c.in-Ok-DescendTexts.field-0-is) tt))
+    (c.in-Ok-DescendTexts.ensures.visits.asked (subst IsStepped (sym c.in-Ok-DescendTexts.field-0-is) tt))
     (shown f c.down.printer q c.in-Ok-DescendTexts.field-0 (step_result.DescendTexts i n) hand c.in-Ok-DescendTexts.field-0-is
     c.in-Ok-DescendTexts.ensures.step).0)))
 
@@ -200,11 +203,11 @@ returns-in-Err-lay_texts-clause-spends g c =
     let laid = c.lay_texts.ensures in
     let hand = c.down.invariant.hand in
     let one = visit f c.down.count c.down.visits c.down.printer c.step.new.visits k hand c.one_more-in-Ok-DescendTexts.ensures.one
-    c.step.ensures.printer
-    c.step.ensures.rises c.step.ensures.counted in
+    c.step.ensures.visits.printer
+    c.step.ensures.visits.rises c.step.ensures.visits.counted in
     let took = takes f c.down.printer hand one
-    (c.in-Ok-DescendTexts.ensures.within (subst IsStepped (sym c.in-Ok-DescendTexts.field-0-is) tt)) c.step.ensures.counted
-    c.step.ensures.few
+    (c.in-Ok-DescendTexts.ensures.visits.within (subst IsStepped (sym c.in-Ok-DescendTexts.field-0-is) tt)) c.step.ensures.visits.counted
+    c.step.ensures.visits.few
     c.down.invariant.spends in
     let probes = rw c.count_more-in-Ok-DescendTexts.ensures.more at laid.probes in
     let rises = rw c.count_more-in-Ok-DescendTexts.ensures.more at laid.rises in
@@ -224,8 +227,8 @@ returns-in-Err-make_room-clause-advances g c =
     let k = c.one_more-in-Ok-DescendTexts.result in
     let hand = c.down.invariant.hand in
     let more = c.one_more-in-Ok-DescendTexts.ensures.one in
-    let one = visit f c.down.count c.down.visits c.down.printer c.step.new.visits k hand more c.step.ensures.printer
-    c.step.ensures.rises c.step.ensures.counted in
+    let one = visit f c.down.count c.down.visits c.down.printer c.step.new.visits k hand more c.step.ensures.visits.printer
+    c.step.ensures.visits.rises c.step.ensures.visits.counted in
     rw c.count_more-in-Ok-DescendTexts.ensures.more
     (advances_refused hand one)
 
@@ -235,11 +238,11 @@ returns-in-Err-make_room-clause-spends g c =
     let k = c.one_more-in-Ok-DescendTexts.result in
     let hand = c.down.invariant.hand in
     let more = c.one_more-in-Ok-DescendTexts.ensures.one in
-    let one = visit f c.down.count c.down.visits c.down.printer c.step.new.visits k hand more c.step.ensures.printer
-    c.step.ensures.rises c.step.ensures.counted in
+    let one = visit f c.down.count c.down.visits c.down.printer c.step.new.visits k hand more c.step.ensures.visits.printer
+    c.step.ensures.visits.rises c.step.ensures.visits.counted in
     let took = takes f c.down.printer hand one
-    (c.in-Ok-DescendTexts.ensures.within (subst IsStepped (sym c.in-Ok-DescendTexts.field-0-is) tt)) c.step.ensures.counted
-    c.step.ensures.few c.down.invariant.spends in
+    (c.in-Ok-DescendTexts.ensures.visits.within (subst IsStepped (sym c.in-Ok-DescendTexts.field-0-is) tt)) c.step.ensures.visits.counted
+    c.step.ensures.visits.few c.down.invariant.spends in
     rw c.count_more-in-Ok-DescendTexts.ensures.more
     (λ plain. spends_error f c.down.printer took plain)
 
@@ -252,11 +255,11 @@ returns-in-Ok-Silent-clause-advances g c =
     let x = visited_more n c.step.new.visits in
     let hand = c.down.invariant.hand in
     let one = visit f c.down.count c.down.visits c.down.printer c.step.new.visits n hand c.one_more-in-Ok-Silent.ensures.one
-    c.step.ensures.printer
-    c.step.ensures.rises c.step.ensures.counted in
+    c.step.ensures.visits.printer
+    c.step.ensures.visits.rises c.step.ensures.visits.counted in
     rw c.count_more-in-Ok-Silent.ensures.more
     (advances_moved hand one
-    (c.in-Ok-Silent.ensures.asked (subst IsStepped (sym c.in-Ok-Silent.field-0-is) tt))
+    (c.in-Ok-Silent.ensures.visits.asked (subst IsStepped (sym c.in-Ok-Silent.field-0-is) tt))
     (wrote f _ [] c.down.printer q (shown f c.down.printer q c.in-Ok-Silent.field-0 step_result.Silent hand c.in-Ok-Silent.field-0-is
     c.in-Ok-Silent.ensures.step)) refl
     (λ is_known. (is_known, (sym (append-nil (known (g.W.Render.bytes c.down.out))), refl))))
@@ -269,8 +272,8 @@ returns-in-Ok-Failed-clause-advances g c =
     let x = visited_more n c.step.new.visits in
     let hand = c.down.invariant.hand in
     let one = visit f c.down.count c.down.visits c.down.printer c.step.new.visits n hand c.one_more-in-Ok-Failed.ensures.one
-    c.step.ensures.printer
-    c.step.ensures.rises c.step.ensures.counted in
+    c.step.ensures.visits.printer
+    c.step.ensures.visits.rises c.step.ensures.visits.counted in
     rw c.count_more-in-Ok-Failed.ensures.more
     (advances_failed f c.down.printer q hand one
     (shown f c.down.printer q c.in-Ok-Failed.field-0 step_result.Failed hand c.in-Ok-Failed.field-0-is c.in-Ok-Failed.ensures.step))
@@ -283,12 +286,12 @@ returns-in-Ok-Choice-clause-advances g c =
     let x = visited_more n c.step.new.visits in
     let hand = c.down.invariant.hand in
     let one = visit f c.down.count c.down.visits c.down.printer c.step.new.visits n hand c.one_more-in-Ok-Choice.ensures.one
-    c.step.ensures.printer
-    c.step.ensures.rises c.step.ensures.counted in
+    c.step.ensures.visits.printer
+    c.step.ensures.visits.rises c.step.ensures.visits.counted in
     rw c.count_more-in-Ok-Choice.ensures.more
     (advances_choice f
     (record { indent = c.in-Ok-Choice.indent; first = c.in-Ok-Choice.first; second = c.in-Ok-Choice.second }) c.down.printer q hand one
-    (c.in-Ok-Choice.ensures.asked (subst IsStepped (sym c.in-Ok-Choice.field-0-is) tt))
+    (c.in-Ok-Choice.ensures.visits.asked (subst IsStepped (sym c.in-Ok-Choice.field-0-is) tt))
     (shown f c.down.printer q c.in-Ok-Choice.field-0 (step_result.Choice c.in-Ok-Choice.indent c.in-Ok-Choice.first c.in-Ok-Choice.second)
     hand
     c.in-Ok-Choice.field-0-is c.in-Ok-Choice.ensures.step))
@@ -302,11 +305,11 @@ returns-in-Ok-write_piece-clause-advances g c =
     let x = visited_more n c.step.new.visits in
     let hand = c.down.invariant.hand in
     let one = visit f c.down.count c.down.visits c.down.printer c.step.new.visits n hand c.one_more-in-Ok-Emit.ensures.one
-    c.step.ensures.printer
-    c.step.ensures.rises c.step.ensures.counted in
+    c.step.ensures.visits.printer
+    c.step.ensures.visits.rises c.step.ensures.visits.counted in
     rw c.count_more-in-Ok-Emit.ensures.more
     (advances_moved hand one
-    (c.in-Ok-Emit.ensures.asked (subst IsStepped (sym c.in-Ok-Emit.field-0-is) tt))
+    (c.in-Ok-Emit.ensures.visits.asked (subst IsStepped (sym c.in-Ok-Emit.field-0-is) tt))
     (wrote f _ (piece_bytes c.in-Ok-Emit.piece) c.down.printer q
     (shown f c.down.printer q c.in-Ok-Emit.field-0 (step_result.Emit c.in-Ok-Emit.piece) hand c.in-Ok-Emit.field-0-is
     c.in-Ok-Emit.ensures.step))
@@ -319,8 +322,9 @@ returns-in-Err-clause-advances g c =
     let n = c.one_more.result in
     let x = visited_more n c.step.new.visits in
     let hand = c.down.invariant.hand in
-    let one = visit f c.down.count c.down.visits c.down.printer c.step.new.visits n hand c.one_more.ensures.one c.step.ensures.printer
-    c.step.ensures.rises c.step.ensures.counted in
+    let one = visit f c.down.count c.down.visits c.down.printer c.step.new.visits n hand c.one_more.ensures.one
+    c.step.ensures.visits.printer
+    c.step.ensures.visits.rises c.step.ensures.visits.counted in
     rw c.count_more.ensures.more
     (advances_refused hand one)
 
@@ -333,8 +337,8 @@ returns-in-Err-write_piece-clause-advances g c =
     let x = visited_more n c.step.new.visits in
     let hand = c.down.invariant.hand in
     let one = visit f c.down.count c.down.visits c.down.printer c.step.new.visits n hand c.one_more-in-Ok-Emit.ensures.one
-    c.step.ensures.printer
-    c.step.ensures.rises c.step.ensures.counted in
+    c.step.ensures.visits.printer
+    c.step.ensures.visits.rises c.step.ensures.visits.counted in
     rw c.count_more-in-Ok-Emit.ensures.more
     (advances_sink_failed hand one
     (wrote f _ (piece_bytes c.in-Ok-Emit.piece) c.down.printer q
@@ -348,10 +352,11 @@ returns-in-Err-clause-spends g c =
     let n = c.one_more.result in
     let x = visited_more n c.step.new.visits in
     let hand = c.down.invariant.hand in
-    let one = visit f c.down.count c.down.visits c.down.printer c.step.new.visits n hand c.one_more.ensures.one c.step.ensures.printer
-    c.step.ensures.rises c.step.ensures.counted in
-    let took = takes f c.down.printer hand one (c.in-Err.ensures.within tt) c.step.ensures.counted
-    c.step.ensures.few c.down.invariant.spends in
+    let one = visit f c.down.count c.down.visits c.down.printer c.step.new.visits n hand c.one_more.ensures.one
+    c.step.ensures.visits.printer
+    c.step.ensures.visits.rises c.step.ensures.visits.counted in
+    let took = takes f c.down.printer hand one (c.in-Err.ensures.visits.within tt) c.step.ensures.visits.counted
+    c.step.ensures.visits.few c.down.invariant.spends in
     rw c.count_more.ensures.more
     (λ plain. spends_error f c.down.printer took plain)
 
@@ -363,10 +368,11 @@ returns-in-Ok-Silent-clause-spends g c =
     let x = visited_more n c.step.new.visits in
     let hand = c.down.invariant.hand in
     let one = visit f c.down.count c.down.visits c.down.printer c.step.new.visits n hand c.one_more-in-Ok-Silent.ensures.one
-    c.step.ensures.printer
-    c.step.ensures.rises c.step.ensures.counted in
+    c.step.ensures.visits.printer
+    c.step.ensures.visits.rises c.step.ensures.visits.counted in
     let took = takes f c.down.printer hand one
-    (c.in-Ok-Silent.ensures.within (subst IsStepped (sym c.in-Ok-Silent.field-0-is) tt)) c.step.ensures.counted c.step.ensures.few
+    (c.in-Ok-Silent.ensures.visits.within (subst IsStepped (sym c.in-Ok-Silent.field-0-is) tt))
+    c.step.ensures.visits.counted c.step.ensures.visits.few
     c.down.invariant.spends in
     rw c.count_more-in-Ok-Silent.ensures.more
     (λ plain.
@@ -382,10 +388,11 @@ returns-in-Ok-Failed-clause-spends g c =
     let x = visited_more n c.step.new.visits in
     let hand = c.down.invariant.hand in
     let one = visit f c.down.count c.down.visits c.down.printer c.step.new.visits n hand c.one_more-in-Ok-Failed.ensures.one
-    c.step.ensures.printer
-    c.step.ensures.rises c.step.ensures.counted in
+    c.step.ensures.visits.printer
+    c.step.ensures.visits.rises c.step.ensures.visits.counted in
     let took = takes f c.down.printer hand one
-    (c.in-Ok-Failed.ensures.within (subst IsStepped (sym c.in-Ok-Failed.field-0-is) tt)) c.step.ensures.counted c.step.ensures.few
+    (c.in-Ok-Failed.ensures.visits.within (subst IsStepped (sym c.in-Ok-Failed.field-0-is) tt))
+    c.step.ensures.visits.counted c.step.ensures.visits.few
     c.down.invariant.spends in
     rw c.count_more-in-Ok-Failed.ensures.more
     (λ plain. spends_failed f c.down.printer q took plain
@@ -399,10 +406,11 @@ returns-in-Ok-Choice-clause-spends g c =
     let x = visited_more n c.step.new.visits in
     let hand = c.down.invariant.hand in
     let one = visit f c.down.count c.down.visits c.down.printer c.step.new.visits n hand c.one_more-in-Ok-Choice.ensures.one
-    c.step.ensures.printer
-    c.step.ensures.rises c.step.ensures.counted in
+    c.step.ensures.visits.printer
+    c.step.ensures.visits.rises c.step.ensures.visits.counted in
     let took = takes f c.down.printer hand one
-    (c.in-Ok-Choice.ensures.within (subst IsStepped (sym c.in-Ok-Choice.field-0-is) tt)) c.step.ensures.counted c.step.ensures.few
+    (c.in-Ok-Choice.ensures.visits.within (subst IsStepped (sym c.in-Ok-Choice.field-0-is) tt))
+    c.step.ensures.visits.counted c.step.ensures.visits.few
     c.down.invariant.spends in
     rw c.count_more-in-Ok-Choice.ensures.more
     (λ plain.
@@ -419,10 +427,11 @@ returns-in-Ok-write_piece-clause-spends g c =
     let x = visited_more n c.step.new.visits in
     let hand = c.down.invariant.hand in
     let one = visit f c.down.count c.down.visits c.down.printer c.step.new.visits n hand c.one_more-in-Ok-Emit.ensures.one
-    c.step.ensures.printer
-    c.step.ensures.rises c.step.ensures.counted in
+    c.step.ensures.visits.printer
+    c.step.ensures.visits.rises c.step.ensures.visits.counted in
     let took = takes f c.down.printer hand one
-    (c.in-Ok-Emit.ensures.within (subst IsStepped (sym c.in-Ok-Emit.field-0-is) tt)) c.step.ensures.counted c.step.ensures.few
+    (c.in-Ok-Emit.ensures.visits.within (subst IsStepped (sym c.in-Ok-Emit.field-0-is) tt))
+    c.step.ensures.visits.counted c.step.ensures.visits.few
     c.down.invariant.spends in
     let bytes = piece_bytes c.in-Ok-Emit.piece in
     rw c.count_more-in-Ok-Emit.ensures.more
@@ -438,10 +447,11 @@ returns-in-Err-write_piece-clause-spends g c =
     let x = visited_more n c.step.new.visits in
     let hand = c.down.invariant.hand in
     let one = visit f c.down.count c.down.visits c.down.printer c.step.new.visits n hand c.one_more-in-Ok-Emit.ensures.one
-    c.step.ensures.printer
-    c.step.ensures.rises c.step.ensures.counted in
+    c.step.ensures.visits.printer
+    c.step.ensures.visits.rises c.step.ensures.visits.counted in
     let took = takes f c.down.printer hand one
-    (c.in-Ok-Emit.ensures.within (subst IsStepped (sym c.in-Ok-Emit.field-0-is) tt)) c.step.ensures.counted c.step.ensures.few
+    (c.in-Ok-Emit.ensures.visits.within (subst IsStepped (sym c.in-Ok-Emit.field-0-is) tt))
+    c.step.ensures.visits.counted c.step.ensures.visits.few
     c.down.invariant.spends in
     rw c.count_more-in-Ok-Emit.ensures.more
     (λ plain. spends_error f c.down.printer took plain)

@@ -1,4 +1,5 @@
-use Rattle.std.proofs.Common.{◌≡◌, ℕ, [], ◌∷◌, ◌++◌, ◌+◌, ◌-◌, ◌^◌, ◌∙◌, ap, arith, length, length-drop, List, min, subst, sym, take, true, false}
+use Rattle.std.proofs.Common.{◌≡◌, ℕ, [], ◌∷◌, ◌++◌, ◌+◌, ◌-◌, ◌^◌, ◌∙◌, ap, arith, length, length-drop, List, min, rules, subst, sym}
+use Rattle.std.proofs.Common.{take, true, false}
 use Rattle.prettyless_model.proofs.Looks.{answer-each}
 use Rattle.prettyless_model.specs.declared.mode.Mode.TheVariants.{Break}
 use Rattle.prettyless_summary.specs.Summary.{look_by}
@@ -48,41 +49,13 @@ returns-in-Some-sum_of-clause-smaller g c =
       nodes_bottom c.in-Some-sum_of.sum.left ts c.in-Some-sum_of.ensures.1,
     )
 
-pub returns-in-Some-sum_of-clause-counted : goal.returns-in-Some-sum_of-clause-counted
-returns-in-Some-sum_of-clause-counted g c =
-    let ts = unread g.N.Walk.tree c.args.commands.now c.args.below.now in
-    omega (
-      arith,
-      c.one_more.ensures.at_most,
-      c.read_by.ensures.nodes,
-      ap nodes c.in_default.ensures.popped.1,
-      ap nodes c.skip_to.ensures.unread,
-      nodes_bottom c.in-Some-sum_of.sum.left ts c.in-Some-sum_of.ensures.1,
-    )
-
-pub returns-in-Some-sum_of-clause-few : goal.returns-in-Some-sum_of-clause-few
-returns-in-Some-sum_of-clause-few g c read one =
-    let f = g.N.Walk.tree in
-    let sum = c.in-Some-sum_of.sum in
-    let ts = unread f c.args.commands.now c.args.below.now in
-    let none = c.skip_to.ensures.unread ∙ bottom_none sum.left ts (sum_whole c.in-Some-sum_of.ensures.0 one.whole) in (
-      record {
-        next = c.read_by.ensures.nodes;
-        own = c.in_default.ensures.popped.1;
-        whole = subst (λ (z : List Task). HaveSum z) (sym none) (tt, omega arith);
-        long = omega (arith, ap length none);
-      },
-      none,
-      c.one_more.ensures.at_most,
-    )
-
 pub returns-in-Some-sum_of-clause-shorter : goal.returns-in-Some-sum_of-clause-shorter
 returns-in-Some-sum_of-clause-shorter g c =
     let ts = unread g.N.Walk.tree c.args.commands.now c.args.below.now in
     omega (arith, ap length c.skip_to.ensures.unread, length-drop (length ts - c.in-Some-sum_of.sum.left) ts)
 
-pub returns-in-Some-sum_of-clause-reads : goal.returns-in-Some-sum_of-clause-reads
-returns-in-Some-sum_of-clause-reads g c long few =
+pub returns-in-Some-sum_of-clause-visits : goal.returns-in-Some-sum_of-clause-visits
+returns-in-Some-sum_of-clause-visits g c =
     let f = g.N.Walk.tree in
     let w = c.args.width in
     let line = c.args.line.now in
@@ -90,33 +63,63 @@ returns-in-Some-sum_of-clause-reads g c long few =
     let sum = c.in-Some-sum_of.sum in
     let ts = unread f c.args.commands.now c.args.below.now in
     let next = reads_below true w false (unread f c.args.commands.now c.skip_to.new.cursor) in
-    let none = c.in_default.ensures.popped in
-    one_read _ _ _ _ c.one_more.ensures.one
-    (ap (λ (z : List Task). reads_all true w z (reads_below true w false ts) line.column line.pending) none.0
-    ∙ sum_reads ts c.in-Some-sum_of.ensures.0 few c.in-Some-sum_of.ensures.1 w line.column line.pending
-    ∙ ap (λ (z : List Task). 1 + read_after (look_by w sum.sum line.column line.pending) (reads_below true w false z))
-    (sym c.skip_to.ensures.unread)
-    ∙ ap (λ (n : ℕ). 1 + n) (c.read_by.ensures.reads [] next)
-    ∙ ap (λ (z : List Task). 1 + reads_on f true w c.read_by.result z next new.column new.pending) (sym none.1))
+    let popped = c.in_default.ensures.popped in
+    record {
+      rises = omega (arith, c.one_more.ensures.rises);
+      counted = omega (
+        arith,
+        c.one_more.ensures.at_most,
+        c.read_by.ensures.nodes,
+        ap nodes popped.1,
+        ap nodes c.skip_to.ensures.unread,
+        nodes_bottom sum.left ts c.in-Some-sum_of.ensures.1,
+      );
+      few = λ before one.
+          let none = c.skip_to.ensures.unread ∙ bottom_none sum.left ts (sum_whole c.in-Some-sum_of.ensures.0 one.whole) in (
+            record {
+              next = c.read_by.ensures.nodes;
+              own = popped.1;
+              whole = subst (λ (z : List Task). HaveSum z) (sym none) (tt, omega arith);
+              long = omega (arith, ap length none);
+            },
+            none,
+            c.one_more.ensures.at_most,
+          );
+      fits = λ small. omega (arith, c.one_more.ensures.one);
+      reads = λ long few. one_read _ _ _ _ c.one_more.ensures.one
+          (ap (λ (z : List Task). reads_all true w z (reads_below true w false ts) line.column line.pending) popped.0
+          ∙ sum_reads ts c.in-Some-sum_of.ensures.0 few c.in-Some-sum_of.ensures.1 w line.column line.pending
+          ∙ ap (λ (z : List Task). 1 + read_after (look_by w sum.sum line.column line.pending) (reads_below true w false z))
+          (sym c.skip_to.ensures.unread)
+          ∙ ap (λ (n : ℕ). 1 + n) (c.read_by.ensures.reads [] next)
+          ∙ ap (λ (z : List Task). 1 + reads_on f true w c.read_by.result z next new.column new.pending) (sym popped.1));
+    }
 
-pub returns-in-Some-read_down-clause-reads : goal.returns-in-Some-read_down-clause-reads
-returns-in-Some-read_down-clause-reads g c long few =
+pub returns-in-Some-read_down-clause-visits : goal.returns-in-Some-read_down-clause-visits
+returns-in-Some-read_down-clause-visits g c =
     let f = g.N.Walk.tree in
     let w = c.args.width in
     let line = c.args.line.now in
     let t = task f c.in-Some-read_down.next in
     let under = unread f c.args.commands.now c.read_down.new.cursor in
-    let none = c.in_default.ensures.popped in
+    let popped = c.in_default.ensures.popped in
     let step = c.in-Some-read_down.ensures.unread in
-    let unknown = run_stops t under
-    (subst (λ (z : List Task). below_run z ≡ z) step ((c.in_default-sum_of.ensures long).1 few)) in
-    ap (λ (n : ℕ). min (c.args.probes.now + n) (2 ^ 64 - 1))
-    (sym (ap (λ (z : List Task). reads_all true w z (reads_below true w false (unread f c.args.commands.now c.args.below.now)) line.column
-    line.pending) none.0
-    ∙ ap (λ (z : List Task). reads_below true w false z line.column line.pending) step
-    ∙ reads_unknown w t under line.column line.pending unknown
-    ∙ ap (λ (z : List Task). reads_all true w (make_task t.indent Break t.tree ∷ z) (reads_below true w false under) line.column
-    line.pending) (sym none.1)))
+    record {
+      rises = omega arith;
+      counted = omega (arith, ap nodes popped.0, ap nodes popped.1, ap nodes step);
+      few = λ before one. search rules;
+      fits = λ small. small;
+      reads = λ long few.
+          let unknown = run_stops t under
+          (subst (λ (z : List Task). below_run z ≡ z) step ((c.in_default-sum_of.ensures long).1 few)) in
+          ap (λ (n : ℕ). min (c.args.probes.now + n) (2 ^ 64 - 1))
+          (sym (ap (λ (z : List Task). reads_all true w z (reads_below true w false (unread f c.args.commands.now c.args.below.now))
+          line.column line.pending) popped.0
+          ∙ ap (λ (z : List Task). reads_below true w false z line.column line.pending) step
+          ∙ reads_unknown w t under line.column line.pending unknown
+          ∙ ap (λ (z : List Task). reads_all true w (make_task t.indent Break t.tree ∷ z) (reads_below true w false under) line.column
+          line.pending) (sym popped.1)));
+    }
 
 pub returns-in-Some-read_down-clause-summed : goal.returns-in-Some-read_down-clause-summed
 returns-in-Some-read_down-clause-summed g c =

@@ -2,9 +2,15 @@ use Rattle.std.proofs.Common.{arith}
 use Rattle.prettyless_probe.proofs.Counting.{all_read}
 use Rattle.prettyless_probe.proofs.summed.read_rest.Goals as goal
 
-pub returns-in-Answer-clause-reads : goal.returns-in-Answer-clause-reads
-returns-in-Answer-clause-reads g c fits on long few =
-    all_read _ _ _ (c.read.invariant.fits fits) (rw c.in-Answer.is at c.read.invariant.reads on long few)
-
-pub returns-in-Answer-clause-reads_at_most : goal.returns-in-Answer-clause-reads_at_most
-returns-in-Answer-clause-reads_at_most g c fits on long few = omega (arith, returns-in-Answer-clause-reads g c fits on long few)
+pub returns-in-Answer-clause-visits : goal.returns-in-Answer-clause-visits
+returns-in-Answer-clause-visits g c =
+    let fits = c.read.invariant.fits in
+    let left = rw c.in-Answer.is at c.read.invariant.reads in
+    record {
+      rises = c.read.invariant.rises;
+      counted = omega (arith, c.read.invariant.counted);
+      asked = omega (arith, c.read.invariant.rises);
+      reads = λ small. all_read _ _ _ (fits small.0) (left small.1.on small.1.long small.1.small);
+      reads_at_most = λ small.
+          omega (arith, all_read _ _ _ (fits small.0) (left small.1.on small.1.long small.1.small));
+    }

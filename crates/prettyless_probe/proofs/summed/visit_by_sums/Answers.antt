@@ -1,7 +1,7 @@
 use Rattle.std.proofs.Common.{ℕ, ◌++◌, ◌+◌, ◌∙◌, ap, arith, sym, true, false}
 use Rattle.prettyless_probe.specs.Reads.{reads_below}
 use Rattle.prettyless_probe.specs.Stack.{in_break, stack_of, unread}
-use Rattle.prettyless_probe.proofs.Counting.{if_ok, one_read}
+use Rattle.prettyless_probe.proofs.Counting.{if_ok, on_ok_from, one_read}
 use Rattle.prettyless_probe.proofs.summed.visit_by_sums.Goals as goal
 
 pub returns-clause-answer : goal.returns-clause-answer
@@ -19,24 +19,29 @@ returns-clause-few g c none long whole =
       c.one_more.ensures.at_most,
     )
 
-pub returns-clause-reads : goal.returns-clause-reads
-returns-clause-reads g c on long few =
-    let f = g.N.Walk.tree in
-    let mine = stack_of f c.args.stack.now in
-    let next = reads_below true c.args.width false (unread f c.args.commands.now c.args.cursor) in
-    let read = one_read _ _ _ _ c.one_more.ensures.one (ap (λ (n : ℕ). 1 + n) (c.read_by-read.ensures.reads mine next)) in
-    if_ok c.read_rest.result _ _ (λ fits exact. exact ∙ read)
-    (c.read_rest.ensures.reads (omega (arith, c.one_more.ensures.one)) on long (omega (arith, few, c.read_by-read.ensures.nodes)))
-
-pub returns-clause-reads_at_most : goal.returns-clause-reads_at_most
-returns-clause-reads_at_most g c on long few =
-    let f = g.N.Walk.tree in
-    let mine = stack_of f c.args.stack.now in
-    let next = reads_below true c.args.width false (unread f c.args.commands.now c.args.cursor) in
-    omega (
-      arith,
-      c.one_more.ensures.at_most,
-      c.read_by-read.ensures.reads mine next,
-      c.read_rest.ensures.reads_at_most (omega (arith, c.one_more.ensures.one)) on long
-          (omega (arith, few, c.read_by-read.ensures.nodes)),
-    )
+pub returns-clause-visits : goal.returns-clause-visits
+returns-clause-visits g c =
+    let mine = stack_of g.N.Walk.tree c.args.stack.now in
+    let next = reads_below true c.args.width false (unread g.N.Walk.tree c.args.commands.now c.args.cursor) in
+    let rest = c.read_rest.ensures.visits in
+    let read = c.read_by-read.ensures in
+    record {
+      rises = omega (arith, c.one_more.ensures.rises, rest.rises);
+      counted = omega (arith, c.one_more.ensures.at_most, read.nodes, rest.counted);
+      asked = on_ok_from c.read_rest.result (omega (arith, c.one_more.ensures.one, rest.rises));
+      reads = λ short.
+          let one = one_read _ _ _ _ c.one_more.ensures.one (ap (λ (n : ℕ). 1 + n) (read.reads mine next)) in
+          if_ok c.read_rest.result _ _ (λ fits exact. exact ∙ one) (rest.reads (
+            omega (arith, c.one_more.ensures.one),
+            record { on = short.on; long = short.long; small = omega (arith, short.small, read.nodes) },
+          ));
+      reads_at_most = λ short. omega (
+        arith,
+        c.one_more.ensures.at_most,
+        read.reads mine next,
+        rest.reads_at_most (
+          omega (arith, c.one_more.ensures.one),
+          record { on = short.on; long = short.long; small = omega (arith, short.small, read.nodes) },
+        ),
+      );
+    }

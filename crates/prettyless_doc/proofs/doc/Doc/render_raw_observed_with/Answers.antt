@@ -6,3 +6,6 @@ returns-clause-rendered g c = renders_doc c.render.ensures
 
 pub returns-clause-counts : goal.returns-clause-counts
 returns-clause-counts g c = counts_visits c.render.ensures
+
+pub returns-clause-refused : goal.returns-clause-refused
+returns-clause-refused g c = c.render.ensures.refused
