@@ -20,7 +20,7 @@ use Rattle.prettyless_printer.specs.Spending.{Left, Rule, Spends, left}
 abbrev pub PendingSame : {N : Type 0} → Queue N → Queue N → Type 0
 PendingSame p q = drop q.start q.nodes.items ≡ drop p.start p.nodes.items
 
-pending_same : {N : Type 0} (f : N → Tree) (p q : Queue N) → PendingSame p q
+pub pending_same : {N : Type 0} (f : N → Tree) (p q : Queue N) → PendingSame p q
     → drop q.start (trees f q.nodes.items) ≡ drop p.start (trees f p.nodes.items)
 pending_same f p q same = drop-map f q.start q.nodes.items ∙ ap (trees f) same ∙ sym (drop-map f p.start p.nodes.items)
 

@@ -23,4 +23,6 @@ pub mod Spending
 pub mod OpenSpending
 pub mod RunSpending
 pub mod Forgetting
+pub mod DueSteps
+pub mod Paying
 pub mod ShiftSpending

@@ -5,6 +5,7 @@ pub mod AtLeast
 pub mod Laying
 pub mod Linear
 pub mod Spending
+pub mod Due
 pub mod ShiftPolicy
 pub mod Trials
 pub mod Open

@@ -1,4 +1,4 @@
-use Rattle.std.proofs.Common.{[], ◌∷◌, ◌∙◌, Result, subst, length, ap, append-nil, arith, refl, sym}
+use Rattle.std.proofs.Common.{[], ◌∷◌, ◌∙◌, Result, subst, length, drop, ap, append-nil, arith, refl, sym}
 use Rattle.prettyless_sink.specs.Sink.{known}
 use Rattle.prettyless_model.specs.declared.mode.Mode.TheVariants.{Flat}
 use Rattle.prettyless_probe.specs.Stack.{make_task, stack_of, task, trees}
@@ -17,6 +17,7 @@ use Rattle.prettyless_printer.proofs.Standings.{wrote}
 use Rattle.prettyless_printer.proofs.Visits.{visited_more-zero}
 use Rattle.prettyless_printer.proofs.Spending.{spends_all, spends_begun, spends_error, spends_choice, spends_down, spends_failed}
 use Rattle.prettyless_printer.proofs.Spending.{spends_moved, takes}
+use Rattle.prettyless_printer.proofs.Paying.{pays_all, pays_begun, pays_choice, pays_down, pays_error, pays_failed, pays_laid, pays_moved}
 use Rattle.prettyless_printer.proofs.Laying.{laying_begins, spends_laid}
 use Rattle.prettyless_printer.proofs.Advancing.{advances_choice, advances_failed, advances_refused, advances_sink_failed, advances_moved}
 use Rattle.prettyless_printer.proofs.turn.turn.Goals as goal
@@ -40,6 +41,9 @@ down-init g c =
       spends = λ plain. rw none
           (spends_begun _ (standing f p) (standing f (record p { commands = c.pop.new.self })) (task f c.in-Some.command) v
           c.in-Some.ensures.popped refl);
+      pays = λ free. rw none
+          (pays_begun _ (standing f p) (standing f (record p { commands = c.pop.new.self })) (task f c.in-Some.command) v
+          c.in-Some.ensures.popped refl free);
     }
 
 pub down-preserved-in-Ok-Descend : goal.down-preserved-in-Ok-Descend
@@ -62,6 +66,10 @@ down-preserved-in-Ok-Descend g c =
       summed = c.in-Ok-Descend.ensures.summed;
       spends = λ plain. spends_down f c.down.printer q c.in-Ok-Descend.next_indent c.down.mode c.in-Ok-Descend.next took plain
           c.step.ensures.queue (shown f c.down.printer q c.in-Ok-Descend.field-0
+          (step_result.Descend c.in-Ok-Descend.next_indent c.in-Ok-Descend.next) hand
+          c.in-Ok-Descend.field-0-is c.in-Ok-Descend.ensures.step);
+      pays = λ free. pays_down f c.down.printer took _ (c.down.invariant.pays free) q c.in-Ok-Descend.next_indent c.down.mode
+          c.in-Ok-Descend.next (shown f c.down.printer q c.in-Ok-Descend.field-0
           (step_result.Descend c.in-Ok-Descend.next_indent c.in-Ok-Descend.next) hand
           c.in-Ok-Descend.field-0-is c.in-Ok-Descend.ensures.step);
     }
@@ -88,6 +96,10 @@ down-preserved g c =
       summed = c.in-Ok-DescendFlat.ensures.summed;
       spends = λ plain. spends_down f c.down.printer q c.in-Ok-DescendFlat.next_indent Flat c.in-Ok-DescendFlat.next took plain
           c.step.ensures.queue (shown f c.down.printer q c.in-Ok-DescendFlat.field-0
+          (step_result.DescendFlat c.in-Ok-DescendFlat.next_indent c.in-Ok-DescendFlat.next) hand c.in-Ok-DescendFlat.field-0-is
+          c.in-Ok-DescendFlat.ensures.step);
+      pays = λ free. pays_down f c.down.printer took _ (c.down.invariant.pays free) q c.in-Ok-DescendFlat.next_indent Flat
+          c.in-Ok-DescendFlat.next (shown f c.down.printer q c.in-Ok-DescendFlat.field-0
           (step_result.DescendFlat c.in-Ok-DescendFlat.next_indent c.in-Ok-DescendFlat.next) hand c.in-Ok-DescendFlat.field-0-is
           c.in-Ok-DescendFlat.ensures.step);
     }
@@ -427,3 +439,180 @@ returns-in-Err-write_piece-clause-spends g c =
     c.down.invariant.spends in
     rw c.count_more-in-Ok-Emit.ensures.more
     (λ plain. spends_error f c.down.printer took plain)
+
+-- ---- Without unions
+
+pub returns-in-Ok-lay_texts-clause-pays : goal.returns-in-Ok-lay_texts-clause-pays
+returns-in-Ok-lay_texts-clause-pays g c =
+    let f = g.N.Walk.tree in
+    let q = c.step.new.printer in
+    let k = c.one_more-in-Ok-DescendTexts.result in
+    let x = visited_more k c.step.new.visits in
+    let i = c.in-Ok-DescendTexts.field-0-0 in
+    let n = c.in-Ok-DescendTexts.next in
+    let laid = c.lay_texts.ensures in
+    let hand = c.down.invariant.hand in
+    let one = visit f c.down.count c.down.visits c.down.printer c.step.new.visits k hand c.one_more-in-Ok-DescendTexts.ensures.one
+    c.step.ensures.printer
+    c.step.ensures.rises c.step.ensures.counted in
+    let took = takes f c.down.printer hand one
+    (c.in-Ok-DescendTexts.ensures.within (subst IsStepped (sym c.in-Ok-DescendTexts.field-0-is) tt)) c.step.ensures.counted
+    c.step.ensures.few
+    c.down.invariant.spends in
+    let probes = rw c.count_more-in-Ok-DescendTexts.ensures.more at laid.probes in
+    let rises = rw c.count_more-in-Ok-DescendTexts.ensures.more at laid.rises in
+    let counted = rw c.count_more-in-Ok-DescendTexts.ensures.more at laid.counted in
+    λ free.
+    (pays_laid (standing f q) (standing f c.lay_texts.new.printer) c.lay_texts.new.visits
+    (ap (stack_of f) laid.commands ∙ ap (λ (z : Printer g.row.N.Denot). stack_of f z.commands) c.make_room.ensures.others)
+    (ap (λ (z : Queue g.row.N.Denot). drop z.start (trees f z.nodes.items)) laid.queue
+    ∙ ap (λ (z : Printer g.row.N.Denot). drop z.queue.start (trees f z.queue.nodes.items)) c.make_room.ensures.others) probes rises counted
+    (pays_down f c.down.printer took _ (c.down.invariant.pays free) q i Flat n
+    (shown f c.down.printer q c.in-Ok-DescendTexts.field-0 (step_result.DescendTexts i n) hand c.in-Ok-DescendTexts.field-0-is
+    c.in-Ok-DescendTexts.ensures.step).0))
+
+pub returns-in-Err-lay_texts-clause-pays : goal.returns-in-Err-lay_texts-clause-pays
+returns-in-Err-lay_texts-clause-pays g c =
+    let f = g.N.Walk.tree in
+    let q = c.step.new.printer in
+    let k = c.one_more-in-Ok-DescendTexts.result in
+    let x = visited_more k c.step.new.visits in
+    let i = c.in-Ok-DescendTexts.field-0-0 in
+    let n = c.in-Ok-DescendTexts.next in
+    let laid = c.lay_texts.ensures in
+    let hand = c.down.invariant.hand in
+    let one = visit f c.down.count c.down.visits c.down.printer c.step.new.visits k hand c.one_more-in-Ok-DescendTexts.ensures.one
+    c.step.ensures.printer
+    c.step.ensures.rises c.step.ensures.counted in
+    let took = takes f c.down.printer hand one
+    (c.in-Ok-DescendTexts.ensures.within (subst IsStepped (sym c.in-Ok-DescendTexts.field-0-is) tt)) c.step.ensures.counted
+    c.step.ensures.few
+    c.down.invariant.spends in
+    let probes = rw c.count_more-in-Ok-DescendTexts.ensures.more at laid.probes in
+    let rises = rw c.count_more-in-Ok-DescendTexts.ensures.more at laid.rises in
+    let counted = rw c.count_more-in-Ok-DescendTexts.ensures.more at laid.counted in
+    λ free.
+    pays_all (pays_laid (standing f q) (standing f c.lay_texts.new.printer) c.lay_texts.new.visits
+    (ap (stack_of f) laid.commands ∙ ap (λ (z : Printer g.row.N.Denot). stack_of f z.commands) c.make_room.ensures.others)
+    (ap (λ (z : Queue g.row.N.Denot). drop z.start (trees f z.nodes.items)) laid.queue
+    ∙ ap (λ (z : Printer g.row.N.Denot). drop z.queue.start (trees f z.queue.nodes.items)) c.make_room.ensures.others) probes rises counted
+    (pays_down f c.down.printer took _ (c.down.invariant.pays free) q i Flat n
+    (shown f c.down.printer q c.in-Ok-DescendTexts.field-0 (step_result.DescendTexts i n) hand c.in-Ok-DescendTexts.field-0-is
+    c.in-Ok-DescendTexts.ensures.step).0))
+
+pub returns-in-Err-make_room-clause-pays : goal.returns-in-Err-make_room-clause-pays
+returns-in-Err-make_room-clause-pays g c =
+    let f = g.N.Walk.tree in
+    let k = c.one_more-in-Ok-DescendTexts.result in
+    let hand = c.down.invariant.hand in
+    let more = c.one_more-in-Ok-DescendTexts.ensures.one in
+    let one = visit f c.down.count c.down.visits c.down.printer c.step.new.visits k hand more c.step.ensures.printer
+    c.step.ensures.rises c.step.ensures.counted in
+    let took = takes f c.down.printer hand one
+    (c.in-Ok-DescendTexts.ensures.within (subst IsStepped (sym c.in-Ok-DescendTexts.field-0-is) tt)) c.step.ensures.counted
+    c.step.ensures.few c.down.invariant.spends in
+    rw c.count_more-in-Ok-DescendTexts.ensures.more
+    (λ free. pays_error f c.down.printer took _ (c.down.invariant.pays free))
+
+pub returns-in-Err-clause-pays : goal.returns-in-Err-clause-pays
+returns-in-Err-clause-pays g c =
+    let f = g.N.Walk.tree in
+    let n = c.one_more.result in
+    let x = visited_more n c.step.new.visits in
+    let hand = c.down.invariant.hand in
+    let one = visit f c.down.count c.down.visits c.down.printer c.step.new.visits n hand c.one_more.ensures.one c.step.ensures.printer
+    c.step.ensures.rises c.step.ensures.counted in
+    let took = takes f c.down.printer hand one (c.in-Err.ensures.within tt) c.step.ensures.counted
+    c.step.ensures.few c.down.invariant.spends in
+    rw c.count_more.ensures.more
+    (λ free. pays_error f c.down.printer took _ (c.down.invariant.pays free))
+
+pub returns-in-Ok-Silent-clause-pays : goal.returns-in-Ok-Silent-clause-pays
+returns-in-Ok-Silent-clause-pays g c =
+    let f = g.N.Walk.tree in
+    let q = c.step.new.printer in
+    let n = c.one_more-in-Ok-Silent.result in
+    let x = visited_more n c.step.new.visits in
+    let hand = c.down.invariant.hand in
+    let one = visit f c.down.count c.down.visits c.down.printer c.step.new.visits n hand c.one_more-in-Ok-Silent.ensures.one
+    c.step.ensures.printer
+    c.step.ensures.rises c.step.ensures.counted in
+    let took = takes f c.down.printer hand one
+    (c.in-Ok-Silent.ensures.within (subst IsStepped (sym c.in-Ok-Silent.field-0-is) tt)) c.step.ensures.counted c.step.ensures.few
+    c.down.invariant.spends in
+    rw c.count_more-in-Ok-Silent.ensures.more
+    (λ free.
+    pays_moved f c.down.printer took _ (c.down.invariant.pays free) q []
+    (wrote f _ [] c.down.printer q (shown f c.down.printer q c.in-Ok-Silent.field-0 step_result.Silent hand c.in-Ok-Silent.field-0-is
+    c.in-Ok-Silent.ensures.step)))
+
+pub returns-in-Ok-Failed-clause-pays : goal.returns-in-Ok-Failed-clause-pays
+returns-in-Ok-Failed-clause-pays g c =
+    let f = g.N.Walk.tree in
+    let q = c.step.new.printer in
+    let n = c.one_more-in-Ok-Failed.result in
+    let x = visited_more n c.step.new.visits in
+    let hand = c.down.invariant.hand in
+    let one = visit f c.down.count c.down.visits c.down.printer c.step.new.visits n hand c.one_more-in-Ok-Failed.ensures.one
+    c.step.ensures.printer
+    c.step.ensures.rises c.step.ensures.counted in
+    let took = takes f c.down.printer hand one
+    (c.in-Ok-Failed.ensures.within (subst IsStepped (sym c.in-Ok-Failed.field-0-is) tt)) c.step.ensures.counted c.step.ensures.few
+    c.down.invariant.spends in
+    rw c.count_more-in-Ok-Failed.ensures.more
+    (λ free. pays_failed f c.down.printer took _ (c.down.invariant.pays free) q
+    (shown f c.down.printer q c.in-Ok-Failed.field-0 step_result.Failed hand c.in-Ok-Failed.field-0-is c.in-Ok-Failed.ensures.step))
+
+pub returns-in-Ok-Choice-clause-pays : goal.returns-in-Ok-Choice-clause-pays
+returns-in-Ok-Choice-clause-pays g c =
+    let f = g.N.Walk.tree in
+    let q = c.step.new.printer in
+    let n = c.one_more-in-Ok-Choice.result in
+    let x = visited_more n c.step.new.visits in
+    let hand = c.down.invariant.hand in
+    let one = visit f c.down.count c.down.visits c.down.printer c.step.new.visits n hand c.one_more-in-Ok-Choice.ensures.one
+    c.step.ensures.printer
+    c.step.ensures.rises c.step.ensures.counted in
+    let took = takes f c.down.printer hand one
+    (c.in-Ok-Choice.ensures.within (subst IsStepped (sym c.in-Ok-Choice.field-0-is) tt)) c.step.ensures.counted c.step.ensures.few
+    c.down.invariant.spends in
+    (λ free.
+    pays_choice f c.down.printer took _ (c.down.invariant.pays free) q c.in-Ok-Choice.indent c.in-Ok-Choice.first c.in-Ok-Choice.second
+    (shown f c.down.printer q c.in-Ok-Choice.field-0 (step_result.Choice c.in-Ok-Choice.indent c.in-Ok-Choice.first c.in-Ok-Choice.second)
+    hand
+    c.in-Ok-Choice.field-0-is c.in-Ok-Choice.ensures.step))
+
+pub returns-in-Ok-write_piece-clause-pays : goal.returns-in-Ok-write_piece-clause-pays
+returns-in-Ok-write_piece-clause-pays g c =
+    let f = g.N.Walk.tree in
+    let q = c.step.new.printer in
+    let n = c.one_more-in-Ok-Emit.result in
+    let x = visited_more n c.step.new.visits in
+    let hand = c.down.invariant.hand in
+    let one = visit f c.down.count c.down.visits c.down.printer c.step.new.visits n hand c.one_more-in-Ok-Emit.ensures.one
+    c.step.ensures.printer
+    c.step.ensures.rises c.step.ensures.counted in
+    let took = takes f c.down.printer hand one
+    (c.in-Ok-Emit.ensures.within (subst IsStepped (sym c.in-Ok-Emit.field-0-is) tt)) c.step.ensures.counted c.step.ensures.few
+    c.down.invariant.spends in
+    let bytes = piece_bytes c.in-Ok-Emit.piece in
+    rw c.count_more-in-Ok-Emit.ensures.more
+    (λ free.
+    pays_moved f c.down.printer took _ (c.down.invariant.pays free) q bytes
+    (wrote f _ bytes c.down.printer q (shown f c.down.printer q c.in-Ok-Emit.field-0 (step_result.Emit c.in-Ok-Emit.piece) hand
+    c.in-Ok-Emit.field-0-is c.in-Ok-Emit.ensures.step)))
+
+pub returns-in-Err-write_piece-clause-pays : goal.returns-in-Err-write_piece-clause-pays
+returns-in-Err-write_piece-clause-pays g c =
+    let f = g.N.Walk.tree in
+    let n = c.one_more-in-Ok-Emit.result in
+    let x = visited_more n c.step.new.visits in
+    let hand = c.down.invariant.hand in
+    let one = visit f c.down.count c.down.visits c.down.printer c.step.new.visits n hand c.one_more-in-Ok-Emit.ensures.one
+    c.step.ensures.printer
+    c.step.ensures.rises c.step.ensures.counted in
+    let took = takes f c.down.printer hand one
+    (c.in-Ok-Emit.ensures.within (subst IsStepped (sym c.in-Ok-Emit.field-0-is) tt)) c.step.ensures.counted c.step.ensures.few
+    c.down.invariant.spends in
+    rw c.count_more-in-Ok-Emit.ensures.more
+    (λ free. pays_error f c.down.printer took _ (c.down.invariant.pays free))

@@ -1,4 +1,4 @@
-use Rattle.std.proofs.Common.{[], ◌∷◌}
+use Rattle.std.proofs.Common.{◌≡◌, [], ◌∷◌}
 use Rattle.prettyless_probe.specs.Stack.{make_task}
 use Rattle.prettyless_step.specs.Steps.{work}
 use Rattle.prettyless_probe.specs.Sums.{IsSummed}
@@ -6,7 +6,9 @@ use Rattle.prettyless_step.specs.Printing.{state_of, tasks_of}
 use Rattle.prettyless_printer.specs.Points.{point, seen, standing}
 use Rattle.prettyless_printer.specs.Visits.{Plain, visited_more}
 use Rattle.prettyless_printer.specs.Spending.{Spends, left, rule_of}
+use Rattle.prettyless_printer.specs.Due.{Pays, due, unions_due}
 use Rattle.prettyless_printer.proofs.Descends.{InHand}
+use Rattle.prettyless_printer.proofs.Paying.{due_with}
 use Rattle.prettyless_printer.proofs.Spending.{left_with}
 use Rattle.prettyless_printer.proofs.turn.turn.Given as goal
 
@@ -21,6 +23,9 @@ invariant-down g l =
       spends : Plain (standing f l.fn.printer) → Spends (rule_of g.N.Walk.HAS_SUMMARIES l.limit)
           (left (standing f l.fn.printer) [] l.fn.visits)
           (left_with (make_task l.indent l.mode (f l.node)) (standing f l.printer) (visited_more l.count l.visits));
+      pays : unions_due (due (standing f l.fn.printer) l.fn.visits) ≡ 0 → Pays (rule_of g.N.Walk.HAS_SUMMARIES l.limit)
+          (due (standing f l.fn.printer) l.fn.visits)
+          (due_with (make_task l.indent l.mode (f l.node)) (standing f l.printer) (visited_more l.count l.visits));
     }
 
 abbrev pub decreases-down : goal.decreases-down
