@@ -1,6 +1,6 @@
 -- What a step without unions leaves due: a visit less at least.
 use Rattle.std.proofs.Common.{◌≡◌, ℕ, ◌+◌, ◌<◌, ◌≤◌, List, [], ◌∷◌, ◌++◌, length, refl, arith, Bool, true, false, Option, Some, None}
-use Rattle.std.proofs.Common.{if◌then◌else◌, ap}
+use Rattle.std.proofs.Common.{if◌then◌else◌}
 use Rattle.prettyless_model.specs.declared.options.RenderOptions.{RenderOptions}
 use Rattle.prettyless_model.specs.declared.options.IndentationPolicy.{IndentationPolicy}
 use Rattle.prettyless_model.specs.declared.options.IndentationPolicy.TheVariants.{Eager, Deferred}
@@ -13,7 +13,8 @@ use Rattle.prettyless_model.specs.declared.mode.Mode.{Mode}
 use Rattle.prettyless_model.specs.declared.mode.Mode.TheVariants.{Break, Flat}
 use Rattle.prettyless_probe.specs.Stack.{Task, make_task, tasks, nodes}
 use Rattle.prettyless_step.specs.Steps.{Step, Move, Stuck, Choose, step_of, rejects_payload, break_step, at_once}
-use Rattle.prettyless_printer.specs.Due.{most_visits, task_visits, pending_visits, unions, task_unions, pending_unions}
+use Rattle.prettyless_printer.specs.Suffixes.{most_visits, unions}
+use Rattle.prettyless_printer.specs.Due.{task_visits, pending_visits, task_unions, pending_unions}
 
 -- ---- Tasks and documents that wait
 

@@ -25,4 +25,5 @@ pub mod RunSpending
 pub mod Forgetting
 pub mod DueSteps
 pub mod Paying
+pub mod DueRounds
 pub mod ShiftSpending

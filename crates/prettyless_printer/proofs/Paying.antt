@@ -1,10 +1,11 @@
 -- What is due of a run without unions: one step, a turn, and runs in a row.
-use Rattle.std.proofs.Common.{◌≡◌, ℕ, ◌+◌, ◌≤◌, ◌<◌, List, [], ◌∷◌, ◌++◌, Bool, false, true, refl, ap, sym, ◌∙◌, arith, subst, drop}
+use Rattle.std.proofs.Common.{◌≡◌, ℕ, ◌+◌, ◌≤◌, ◌<◌, List, [], ◌∷◌, ◌++◌, Bool, false, true, refl, ap, sym, ◌∙◌, arith, subst, drop, Result, IsErr, Ok, Err}
 use Rattle.prettyless_sink.specs.declared.visits.Visits.{Visits}
 use Rattle.prettyless_model.specs.declared.mode.Mode.{Mode}
+use Rattle.prettyless_model.specs.declared.mode.Mode.TheVariants.{Break}
 use Rattle.prettyless_model.specs.Tree.{Tree, size}
-use Rattle.prettyless_model.specs.Layout.{State}
-use Rattle.prettyless_probe.specs.Stack.{Task, make_task, nodes, follow}
+use Rattle.prettyless_model.specs.Layout.{State, flushed}
+use Rattle.prettyless_probe.specs.Stack.{Task, make_task, nodes, follow, tasks}
 use Rattle.prettyless_probe.proofs.Sizes.{size_positive}
 use Rattle.prettyless_probe.specs.Sums.{AllSummed, HaveSummaries, TreesHaveSummaries}
 use Rattle.prettyless_step.specs.Steps.{Step, StepHasSummaries, Move, Stuck, Choose}
@@ -16,8 +17,10 @@ use Rattle.prettyless_step.proofs.Shown.{step_at, StepsTo, IsChoice}
 use Rattle.prettyless_step.proofs.Summaries.{step_has}
 use Rattle.prettyless_printer.specs.Points.{Standing, standing, state_at, Seen, Point, point}
 use Rattle.prettyless_printer.specs.Spending.{Rule}
-use Rattle.prettyless_printer.specs.Due.{Due, DueHasSummaries, Pays, due, nothing_due, most_visits, task_visits, pending_visits}
-use Rattle.prettyless_printer.specs.Due.{task_unions, pending_unions, unions, unions_due, visits_due}
+use Rattle.prettyless_printer.specs.declared.run.Run.{Run}
+use Rattle.prettyless_printer.specs.Due.{Due, DueHasSummaries, Pays, PaysRun, due, nothing_due, task_visits, pending_visits}
+use Rattle.prettyless_printer.specs.Due.{task_unions, pending_unions, unions_due, visits_due}
+use Rattle.prettyless_printer.specs.Suffixes.{most_visits}
 use Rattle.prettyless_printer.proofs.Standings.{Wrote, choice_there, descended, step_from, stuck_there}
 use Rattle.prettyless_printer.proofs.Forgetting.{PendingSame, pending_same}
 use Rattle.prettyless_printer.proofs.Spending.{StepVisits, TakesTask, capped_one, each_probe_one, have_append}
@@ -223,3 +226,51 @@ pub pays_forgets : {N : Type 0} (f : N → Tree) {r : Rule} {a : Due} (p : Print
     → Pays r a (due (standing f p) v) → Pays r a (due (standing f (record p { queue = q })) v)
 pays_forgets f {r} {a} p q v same h =
     subst (λ (ds : List Tree). Pays r a (due_tasks (standing f p).tasks ds v)) (sym (pending_same f p.queue q same)) h
+
+-- ---- Runs
+
+-- a run that ended in an error
+pub pays_error_as : {N A E : Type 0} {r : Rule} {a : Due} (f : N → Tree) (q : Run N) (result : Result A E) → IsErr result
+    → Pays r a (nothing_due q.visits) → PaysRun f r a q result
+pays_error_as f q (Ok x) e h = cc
+pays_error_as f q (Err x) e h = h
+
+-- runs in a row, of which the second one may have ended in an error
+pub pays_then_as : {N A E : Type 0} {r : Rule} {a b : Due} (f : N → Tree) (q : Run N) (result : Result A E) → Pays r a b
+    → PaysRun f r b q result → PaysRun f r a q result
+pays_then_as f q (Ok x) h k = (k.0, pays_then h k.1)
+pays_then_as f q (Err e) h k = pays_then h k
+
+-- ---- The end
+
+flushed_visits : (i : ℕ) (m : Mode) (ps : List Tree) → task_visits (tasks i m ps) ≤ pending_visits ps
+flushed_visits i m [] = omega arith
+flushed_visits i m (p ∷ ps) = omega (arith, flushed_visits i m ps)
+
+flushed_unions : (i : ℕ) (m : Mode) (ps : List Tree) → task_unions (tasks i m ps) ≡ pending_unions ps
+flushed_unions i m [] = refl
+flushed_unions i m (p ∷ ps) = omega (arith, flushed_unions i m ps)
+
+flushed_has : (i : ℕ) (m : Mode) (ps : List Tree) → TreesHaveSummaries ps → HaveSummaries (tasks i m ps)
+flushed_has i m [] h = tt
+flushed_has i m (p ∷ ps) h = (h.0, flushed_has i m ps h.1)
+
+-- what was pending is to be laid next
+pub pays_flushed : {r : Rule} {a : Due} (p q : Standing) (v : Visits) → p.tasks ≡ [] → q.tasks ≡ tasks 0 Break (state_at p).pending
+    → state_at q ≡ flushed p.options (state_at p) → Pays r a (due p v) → Pays r a (due q v)
+pays_flushed {r} {a} p q v none stack state h =
+    let waits = (state_at p).pending in
+    let empty : (state_at q).pending ≡ [] = ap (λ (z : State). z.pending) state in
+    let fewer : task_visits q.tasks ≤ pending_visits waits = omega (arith, ap task_visits stack, flushed_visits 0 Break waits) in
+    pays_then h
+    (record {
+      unions = omega (arith, ap task_unions stack, flushed_unions 0 Break waits, ap pending_unions empty, h.unions);
+      due = omega (arith, fewer, ap pending_visits empty);
+      printer = omega (arith, fewer, ap pending_visits empty);
+      capped = λ most l m. l;
+      have = λ k. (
+        subst HaveSummaries (sym stack) (flushed_has 0 Break waits k.1),
+        subst TreesHaveSummaries (sym empty) tt,
+      );
+      few = λ is_true small k. (0, omega arith, omega arith);
+    })

@@ -1,36 +1,19 @@
 -- What is due: what a run without unions has still to lay, and how many visits that takes at most. The printer visits each node once,
 -- and once more, for each line suffix, the break before which that is laid. A probe is started only where the count is within a limit,
 -- and visits no more nodes than visits of the printer are due; where all is summed up, it visits two.
-use Rattle.std.specs.Prelude.{◌≡◌, ℕ, ◌+◌, ◌^◌, ◌≤◌, ◌<◌, IsTrue, List, [], ◌∷◌, Result, Ok, Err}
+use Rattle.std.specs.Prelude.{◌≡◌, ℕ, ◌+◌, ◌-◌, ◌^◌, ◌≤◌, ◌<◌, IsTrue, true, List, [], ◌∷◌, Result, Ok, Err}
 use Rattle.prettyless_sink.specs.declared.visits.Visits.{Visits}
-use Rattle.prettyless_model.specs.Tree.{Tree, Append, LineSuffix, Indented, Flatten, BreakOrFlat, Group, Union, PartialUnion, Chosen, size}
-use Rattle.prettyless_model.specs.Levels.{suffixes}
+use Rattle.prettyless_model.specs.Tree.{Tree}
 use Rattle.prettyless_probe.specs.Stack.{Task}
 use Rattle.prettyless_probe.specs.Sums.{HaveSummaries, TreesHaveSummaries}
 use Rattle.prettyless_printer.specs.Points.{Standing, standing, state_at}
-use Rattle.prettyless_printer.specs.Spending.{Capped, Rule, TwoEach}
+use Rattle.prettyless_printer.specs.Spending.{Capped, Rule, TwoEach, rule_of}
+use Rattle.prettyless_printer.specs.Suffixes.{most_visits, unions}
 use Rattle.prettyless_printer.specs.declared.run.Run.{Run}
 use Rattle.prettyless_printer.specs.declared.answer.TurnResult.{TurnResult}
 use Rattle.prettyless_printer.specs.declared.answer.TurnResult.TheVariants.{Complete, Failed, Choice, Shift}
 
--- how many unions a tree has; a partial union is none
-abbrev pub unions : Tree → ℕ
-unions (Append l r) = unions l + unions r
-unions (LineSuffix d) = unions d
-unions (Indented how d) = unions d
-unions (Flatten d) = unions d
-unions (BreakOrFlat b f) = unions b + unions f
-unions (Group d) = unions d
-unions (Union l r) = unions l + unions r + 1
-unions (PartialUnion l r) = unions l + unions r
-unions (Chosen test y n) = unions y + unions n
-unions _ = 0
-
--- how many visits of the printer a document without unions takes at most
-abbrev pub most_visits : Tree → ℕ
-most_visits d = size d + suffixes d
-
--- the same of tasks
+-- how many visits of the printer tasks take at most
 abbrev pub task_visits : List Task → ℕ
 task_visits [] = 0
 task_visits (t ∷ ts) = most_visits t.tree + task_visits ts
@@ -105,3 +88,12 @@ PaysTurn r a q w (Err e) = Pays r a (nothing_due w)
 abbrev pub PaysRun : {N A E : Type 0} → (N → Tree) → Rule → Due → Run N → Result A E → Type 0
 PaysRun f r a q (Ok x) = (q.trials.open.items ≡ []) × Pays r a (due_of f q)
 PaysRun f r a q (Err e) = Pays r a (nothing_due q.visits)
+
+-- a run of which no trial was open has gone on over a table to its end
+abbrev pub PaysOverTable : {N : Type 0} → (N → Tree) → Run N → Visits → Type 0
+PaysOverTable f p w =
+    p.trials.open.items ≡ [] → unions_due (due_of f p) ≡ 0 → Pays (rule_of true (2 ^ 64 - 1)) (due_of f p) (nothing_due w)
+
+-- A run without unions to the end, of which this was due.
+pub record PaysToEnd (a : Due) (w : Visits) : Type 0 where
+  pub printer : w.printer ≤ a.visits.printer + visits_due a

@@ -4,6 +4,7 @@ pub mod Visits
 pub mod AtLeast
 pub mod Laying
 pub mod Linear
+pub mod Suffixes
 pub mod Spending
 pub mod Due
 pub mod ShiftPolicy

@@ -8,6 +8,7 @@ ghost use Rattle.prettyless_printer.specs.Points.{Point, point_of, seen_by, stan
 ghost use Rattle.prettyless_printer.specs.Renders.{FlushesEnd, RunsToEnd};
 ghost use Rattle.prettyless_printer.specs.Visits.{Plain};
 ghost use Rattle.prettyless_printer.specs.Spending.{IsPlainChoice, Spends, SpendsAs, left_alone, left_choice, left_of, none_left, rule_of};
+ghost use Rattle.prettyless_printer.specs.Due.{Pays, PaysRun, due_of, nothing_due, unions_due};
 ghost use Rattle.prettyless_printer.specs.Runs.{RunReaches, InChoice, RunsToEndOrStops, ChoosesOrStops, RunsCommandsOrStops, station_of};
 
 use crate::answer::{Choice, RunResult, TrialResult, TurnResult};
@@ -123,6 +124,8 @@ impl<N: Walk> Run<N> {
             (station_of N.tree self.new (seen_by W.Render out.new)) result }
         ensures spends { Plain (standing N.tree self.old.printer)
             → SpendsAs (rule_of N.HAS_SUMMARIES limit) (left_alone N.tree self.old) (left_of N.tree self.new) result }
+        ensures pays { unions_due (due_of N.tree self.old) ≡ 0
+            → PaysRun N.tree (rule_of N.HAS_SUMMARIES limit) (due_of N.tree self.old) self.new result }
         ensures summed { OnOk result (IsSummed N.HAS_SUMMARIES N.tree self.new.printer.commands) }
     {
         'work: while self.printer.commands.len() > 0 {
@@ -152,6 +155,8 @@ impl<N: Walk> Run<N> {
             (station_of N.tree self.new (seen_by W.Render out.new)) result }
         ensures spends { Plain (standing N.tree self.old.printer)
             → SpendsAs (rule_of N.HAS_SUMMARIES limit) (left_alone N.tree self.old) (left_of N.tree self.new) result }
+        ensures pays { unions_due (due_of N.tree self.old) ≡ 0
+            → PaysRun N.tree (rule_of N.HAS_SUMMARIES limit) (due_of N.tree self.old) self.new result }
         ensures summed { OnOk result (IsSummed N.HAS_SUMMARIES N.tree self.new.printer.commands) }
     {
         'rounds: loop {
@@ -180,6 +185,8 @@ impl<N: Walk> Run<N> {
             → RunsToEndOrStops (W.document_errors out.new) limit a (station_of N.tree self.new (seen_by W.Render out.new)) result }
         ensures spends { (a : Point) → RunReaches a (station_of N.tree self.old (seen_by W.Render out.old)) → Plain a.printer
             → SpendsAs (rule_of N.HAS_SUMMARIES limit) (left_of N.tree self.old) (left_of N.tree self.new) result }
+        ensures pays { self.old.trials.open.items ≡ [] → unions_due (due_of N.tree self.old) ≡ 0
+            → PaysRun N.tree (rule_of N.HAS_SUMMARIES limit) (due_of N.tree self.old) self.new result }
         ensures summed { OnOk result (IsSummed N.HAS_SUMMARIES N.tree self.new.printer.commands) }
     {
         if self.trials.is_empty() {
@@ -199,6 +206,8 @@ impl<N: Walk> Run<N> {
             → RunsToEnd (W.document_errors out.new) a (point_of N.tree self.new (seen_by W.Render out.new)) result }
         ensures spends { (a : Point) → RunReaches a (station_of N.tree self.old (seen_by W.Render out.old)) → Plain a.printer
             → Spends (rule_of N.HAS_SUMMARIES (2 ^ 64 - 1)) (left_of N.tree self.old) (none_left self.new.visits) }
+        ensures pays { self.old.trials.open.items ≡ [] → unions_due (due_of N.tree self.old) ≡ 0
+            → Pays (rule_of N.HAS_SUMMARIES (2 ^ 64 - 1)) (due_of N.tree self.old) (nothing_due self.new.visits) }
     {
         match self.resume(out, u64::MAX)? {
             RunResult::Finished => Ok(()),

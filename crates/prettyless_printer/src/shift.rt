@@ -13,6 +13,7 @@ ghost use Rattle.prettyless_printer.specs.Renders.{EndsAnywhere};
 ghost use Rattle.prettyless_printer.specs.Runs.{RunReaches, station_of};
 ghost use Rattle.prettyless_printer.specs.Linear.{IsLinearBound, IsLinearStart};
 ghost use Rattle.prettyless_printer.specs.Spending.{EndsOverTable, left_of};
+ghost use Rattle.prettyless_printer.specs.Due.{PaysOverTable, PaysToEnd, due_of, unions_due};
 
 use crate::answer::RunResult;
 use crate::buffer::Buffer;
@@ -111,6 +112,7 @@ impl<N: Walk> Run<N> {
         requires comes { (a : Point) × RunReaches a (station_of N.tree self.old (seen_by W.Render out.old)) }
         ensures ended { IfOk result (λ o. IfSome o (λ r. (a : Point) → RunReaches a (station_of N.tree self.old (seen_by W.Render out.old))
             → EndsOverTable (W.document_errors out.new) a (left_of N.tree self.old) (seen_by W.Render out.new) self.new.visits r)) }
+        ensures pays { IfOk result (λ o. IfSome o (λ _. PaysOverTable N.tree self.old self.new.visits)) }
         ensures large { IfOk result (λ o. IfNone o (min room 4294967294 < run_nodes N.tree self.old)) }
         ensures none { IfOk result (λ o. IfNone o ((out.new ≡ out.old) × (self.new ≡ self.old))) }
         ensures refused { OnErr result ((out.new ≡ out.old) × (self.new ≡ self.old)) }
@@ -150,6 +152,7 @@ impl<N: Walk> Run<N> {
         requires comes { (a : Point) × RunReaches a (station_of N.tree self.old (seen_by W.Render out.old)) }
         ensures ended { IfSome result (λ r. (a : Point) → RunReaches a (station_of N.tree self.old (seen_by W.Render out.old))
             → EndsOverTable (W.document_errors out.new) a (left_of N.tree self.old) (seen_by W.Render out.new) self.new.visits r) }
+        ensures pays { IfSome result (λ _. PaysOverTable N.tree self.old self.new.visits) }
         ensures large { IfNone result (0 < room → refused.new ≡ 0 → min room 4294967294 < run_nodes N.tree self.old) }
         ensures none { IfNone result ((out.new ≡ out.old) × (self.new ≡ self.old)) }
         ensures rises { refused.old ≤ refused.new }
@@ -185,6 +188,7 @@ impl<N: Walk> Run<N> {
         ensures twice { IsLinearStart (standing N.tree self.old.printer) → refused.new ≡ 0 → 0 < room_at_first
             → nodes (tasks_of N.tree self.old.printer) ≤ room_at_first
             → IsLinearBound 2 0 (nodes (tasks_of N.tree self.old.printer)) self.old.visits self.new.visits }
+        ensures pays { unions_due (due_of N.tree self.old) ≡ 0 → PaysToEnd (due_of N.tree self.old) self.new.visits }
     {
         let mut policy = ShiftPolicy::new(self.visits);
         let mut room = room_at_first;

@@ -2,6 +2,7 @@ use Rattle.std.proofs.Common.{arith}
 use Rattle.std.proofs.lemmas.Result.{err_from_is_err_and}
 use Rattle.prettyless_printer.specs.declared.answer.RunResult.TheVariants as run_result
 use Rattle.prettyless_printer.proofs.Shifts.{error_anyhow, done_anyhow}
+use Rattle.prettyless_printer.proofs.Paying.{pays_all}
 use Rattle.prettyless_printer.proofs.run.Run.finish.Goals as goal
 
 -- the run is done
@@ -24,3 +25,7 @@ pub unreachable-requires : goal.unreachable-requires
 unreachable-requires g c =
     let past = ((rw c.in-Shift.is at c.in_ok-resume.ensures.runs) c.requires.comes.0 c.requires.comes.1).past in
     omega (arith, past.0, past.1)
+
+-- without unions
+pub returns-clause-pays : goal.returns-clause-pays
+returns-clause-pays g c = λ none free. pays_all (c.in_ok-resume.ensures.pays none free).1

@@ -1,4 +1,4 @@
-use Rattle.std.proofs.Common.{ap}
+use Rattle.std.proofs.Common.{ap, arith, length}
 use Rattle.std.proofs.lemmas.List.{nil_from_length}
 use Rattle.std.proofs.lemmas.Result.{err_from_is_err_and}
 use Rattle.prettyless_printer.specs.Points.{point_of, seen_by}
@@ -113,3 +113,16 @@ returns-in-Finished-clause-spends g c = λ a h plain.
     (seconds_none f c.resume_choice.new.self settled.0
     (c.in_ok-resume_choice.ensures.spends came.indent came.first came.second came.at came.choice (came_plain came plain)))
     (c.run_to_end-in-Finished.ensures.spends (continues.at_most plain).0)
+
+-- without open trials no choice is resumed
+pub returns-in_err-resume_choice-clause-pays : goal.returns-in_err-resume_choice-clause-pays
+returns-in_err-resume_choice-clause-pays g c = λ none free.
+    absurd (omega (arith, c.is_empty.ensures.some c.if-is_empty.false, ap length none))
+
+pub returns-in-Shift-clause-pays : goal.returns-in-Shift-clause-pays
+returns-in-Shift-clause-pays g c = λ none free.
+    absurd (omega (arith, c.is_empty.ensures.some c.if-is_empty.false, ap length none))
+
+pub returns-in-Finished-clause-pays : goal.returns-in-Finished-clause-pays
+returns-in-Finished-clause-pays g c = λ none free.
+    absurd (omega (arith, c.is_empty.ensures.some c.if-is_empty.false, ap length none))
