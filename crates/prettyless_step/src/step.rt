@@ -12,6 +12,7 @@ ghost use Rattle.prettyless_step.specs.Steps.{Move, at_once, break_step, counted
 ghost use Rattle.prettyless_step.specs.Steps.{rejects_payload, step_of, union_step};
 ghost use Rattle.prettyless_step.specs.Piece.{piece_bytes};
 ghost use Rattle.prettyless_step.specs.Printing.{IsStepped, IsSteppedOrRefused, IsStopped, Shows, Writes, following, state_of, tasks_of};
+ghost use Rattle.prettyless_step.specs.Printing.{StartStays};
 ghost use Rattle.prettyless_probe.specs.Probing.{Few, RisesBy, asked, is_fit};
 ghost use Rattle.prettyless_probe.specs.Reads.{IsFew, RisesTo};
 ghost use Rattle.prettyless_step.specs.Reads.{reads_here, step_reads};
@@ -190,6 +191,7 @@ fn break_line<N: Walk>(
         (following N.tree printer.old) (state_of N.tree printer.old))
         printer.old printer.new) }
     ensures queue { some_pending (state_of N.tree printer.old).pending ≡ false → printer.new.queue ≡ printer.old.queue }
+    ensures start { OnOk result (StartStays N.tree printer.old printer.new) }
     ensures past { IfOk result (λ taken. IsStopped taken → ⊥) }
     ensures summed { OnOk result (IsSummed N.HAS_SUMMARIES N.tree printer.new.commands) }
 {
@@ -381,6 +383,7 @@ pub fn step<'v, N: Walk>(
         (tasks_of N.tree printer.old) (state_of N.tree printer.old) }
     ensures queue { suffix_depth (N.tree node.now) ≡ 0 → some_pending (state_of N.tree printer.old).pending ≡ false
         → printer.new.queue ≡ printer.old.queue }
+    ensures start { OnOk result (StartStays N.tree printer.old printer.new) }
     ensures summed { OnOk result (IsSummed N.HAS_SUMMARIES N.tree printer.new.commands) }
 {
     match node.view() {
