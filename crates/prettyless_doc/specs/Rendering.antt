@@ -7,6 +7,7 @@ use Rattle.prettyless_model.specs.Layout.{layout}
 use Rattle.prettyless_model.specs.Tree.{Tree, size, probed}
 use Rattle.prettyless_model.specs.declared.options.RenderOptions.{RenderOptions}
 use Rattle.prettyless_printer.specs.Linear.{BoundedByTable, IsLinearBound, IsLinear}
+use Rattle.prettyless_printer.specs.Suffixes.{most_visits, unions}
 use Rattle.prettyless_printer.specs.Renders.{Rendered, RendersKnown}
 use Rattle.prettyless_sink.specs.Sink.{IfKnown}
 use Rattle.prettyless_sink.specs.declared.error.RenderError.{RenderError}
@@ -50,6 +51,9 @@ pub record CountsVisits {A E : Type 0} (o : RenderOptions) (d : Tree) (refused :
   -- Where a table bounds the probes of the document, and none was refused memory, probes visit at most sixteen nodes for
   -- each node, and a thousand, whatever the answer: so all visits are linear in the document.
   pub few : IsLinear d → refused ≡ 0 → IsLinearBound 16 1000 (size d) v w
+  -- Without unions the printer visits each node once at most, and once more, for each line suffix, the break before which that
+  -- is laid: fewer than two visits for each node, whatever the answer.
+  pub with_suffixes : unions d ≡ 0 → w.printer ≤ v.printer + most_visits d
   -- `Ok`: the printer visits at least the nodes that the layout lays, up to the greatest count.
   pub laid : OnOk result (min (v.printer + laid_nodes o d) (2 ^ 64 - 1) ≤ w.printer)
   -- `Ok`: the probes visit at least one node for each probe that the layout needs, up to the greatest count.

@@ -23,6 +23,9 @@ pub mod Spending
 pub mod OpenSpending
 pub mod RunSpending
 pub mod Forgetting
+pub mod DueSteps
+pub mod Paying
+pub mod DueRounds
 pub mod ShiftSpending
 pub mod Courses
 pub mod OpenCourses

@@ -1,5 +1,5 @@
 -- The shift: over a table a run stands where it stood, with the same trials open.
-use Rattle.std.proofs.Common.{◌≡◌, ℕ, ◌≤◌, List, [], append-nil, Err, Result, refl, ap, sym, arith, subst}
+use Rattle.std.proofs.Common.{◌≡◌, ℕ, ◌+◌, ◌≤◌, List, [], append-nil, Err, Result, refl, ap, sym, arith, subst}
 use Rattle.std.specs.declared.alloc.AllocError.{AllocError}
 use Rattle.prettyless_sink.specs.Sink.{known}
 use Rattle.prettyless_sink.specs.declared.error.RenderError.{RenderError}
@@ -21,6 +21,8 @@ use Rattle.prettyless_printer.specs.Visits.{suffix_depths}
 use Rattle.prettyless_printer.specs.Linear.{IsLinearBound, IsLinear, IsLinearStart}
 use Rattle.prettyless_printer.specs.Open.{Held, all_held, held_of, seconds}
 use Rattle.prettyless_printer.specs.Spending.{Left, Rule, Spends, left}
+use Rattle.prettyless_printer.specs.Suffixes.{most_visits, unions}
+use Rattle.prettyless_printer.specs.Due.{PaysToEnd, due, pending_unions, pending_visits, task_unions, task_visits, unions_due}
 use Rattle.prettyless_printer.specs.Runs.{RunReaches, Station, station_at, station_of}
 use Rattle.prettyless_printer.specs.Renders.{Begins, Renders, RunsToEnd}
 use Rattle.prettyless_printer.proofs.Renders.{renders}
@@ -86,16 +88,30 @@ begins_few {o} {d} {p} factor more v w begins few =
 pub begins_small : {o : RenderOptions} {d : Tree} {p : Standing} (most : ℕ) → Begins o d p → size d ≤ most → nodes p.tasks ≤ most
 begins_small {o} {d} {p} most begins small = omega (arith, ap nodes begins.tasks, small)
 
+-- what is due of it
+pub begins_pays : {o : RenderOptions} {d : Tree} {p : Standing} {v w : Visits} → Begins o d p
+    → (unions_due (due p v) ≡ 0 → PaysToEnd (due p v) w) → unions d ≡ 0 → w.printer ≤ v.printer + most_visits d
+begins_pays {o} {d} {p} {v} {w} begins pays free =
+    let none = ap (λ (u : State). pending_unions u.pending) begins.state in
+    let waits = ap (λ (u : State). pending_visits u.pending) begins.state in
+    omega (
+      arith,
+      (pays (omega (arith, ap task_unions begins.tasks, none, free))).printer,
+      ap task_visits begins.tasks,
+      waits,
+    )
+
 -- a run to the end, from before a document, is a render
 pub begun_renders : {A E : Type 0} (fails : E → Type 0) {o : RenderOptions} {d : Tree} {a b : Point} (m n : ℕ)
     (r : Result A (RenderError E)) → Begins o d a.printer → RunsToEnd fails a b r →
     m ≤ n → (IsLinearStart a.printer → n ≡ 0 → IsLinearBound 16 1000 (nodes a.printer.tasks) a.visits b.visits) →
+    (unions_due (due a.printer a.visits) ≡ 0 → PaysToEnd (due a.printer a.visits) b.visits) →
     Renders fails o d a.sink b.sink (record { visits = a.visits; refused = m }) (record { visits = b.visits; refused = n }) r
-begun_renders fails {o} {d} {a} {b} m n r begins ran refused few =
+begun_renders fails {o} {d} {a} {b} m n r begins ran refused few pays =
     subst (λ (x : RenderOptions). Renders fails x d a.sink b.sink (record { visits = a.visits; refused = m })
     (record { visits = b.visits; refused = n }) r) begins.options
     (renders fails d m n r begins.tasks begins.state ran refused
-    (λ linear none. begins_few 16 1000 a.visits b.visits begins (few (begins_linear begins linear) none)))
+    (λ linear none. begins_few 16 1000 a.visits b.visits begins (few (begins_linear begins linear) none)) (begins_pays begins pays))
 
 -- a render that is refused memory before its first node
 pub refused_renders : {A E : Type 0} (fails : E → Type 0) (o : RenderOptions) (d : Tree) (s : Seen) (v : RenderCost) (e : AllocError)
@@ -107,5 +123,6 @@ refused_renders fails o d s v e = record {
   visited = record { printer = λ _. omega arith; probes = λ _. omega arith };
   refused = omega arith;
   few = λ linear none room. omega arith;
+  with_suffixes = λ free. omega arith;
   at_least = tt;
 }

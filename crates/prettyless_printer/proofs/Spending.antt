@@ -31,7 +31,7 @@ use Rattle.prettyless_printer.proofs.Visits.{NoSuffix, at_most_all, choice_at_mo
 -- ---- One probe
 
 -- a node needs one probe at most
-each_probe_one : (d : Tree) (m : Mode) → each_probe d m ≤ 1
+pub each_probe_one : (d : Tree) (m : Mode) → each_probe d m ≤ 1
 each_probe_one (Group d) Break = omega arith
 each_probe_one (Group d) Flat = omega arith
 each_probe_one (PartialUnion l r) Break = omega arith
@@ -39,7 +39,7 @@ each_probe_one (PartialUnion l r) Flat = omega arith
 each_probe_one _ m = omega arith
 
 -- a probe that is started within a limit visits no more nodes past it than are left
-capped_one : (d : Tree) (m : Mode) (k : ℕ) {limit v x : ℕ} → (0 < each_probe d m → v ≤ limit) → x ≤ v + asked d m k
+pub capped_one : (d : Tree) (m : Mode) (k : ℕ) {limit v x : ℕ} → (0 < each_probe d m → v ≤ limit) → x ≤ v + asked d m k
     → Capped limit (size d + k) v x
 capped_one (Group d) Break k asks counted = λ most low high. omega (arith, counted, asks (omega arith))
 capped_one (Group d) Flat k asks counted = λ most low high. omega (arith, counted)
@@ -112,7 +112,7 @@ step_spends {r} {t} {ts} {q'} one counts have queue = record {
       (1, omega (arith, one.few all, each_probe_one t.tree t.mode), omega (arith, one.least));
 }
 
-have_append : (ts us : List Task) → HaveSummaries ts → HaveSummaries us → HaveSummaries (ts ++ us)
+pub have_append : (ts us : List Task) → HaveSummaries ts → HaveSummaries us → HaveSummaries (ts ++ us)
 have_append [] us h k = k
 have_append (t ∷ ts) us h k = (h.0, have_append ts us h.1 k)
 

@@ -4,7 +4,9 @@ pub mod Visits
 pub mod AtLeast
 pub mod Laying
 pub mod Linear
+pub mod Suffixes
 pub mod Spending
+pub mod Due
 pub mod ShiftPolicy
 pub mod Trials
 pub mod Open

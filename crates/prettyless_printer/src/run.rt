@@ -12,6 +12,7 @@ ghost use Rattle.prettyless_printer.specs.CourseOf.{ChoiceCourse, ComesToChoice,
 ghost use Rattle.prettyless_printer.specs.CourseOf.{WaitWith, around, choice_waits, place_at};
 ghost use Rattle.prettyless_printer.specs.Visits.{Plain};
 ghost use Rattle.prettyless_printer.specs.Spending.{IsPlainChoice, Spends, SpendsAs, left_alone, left_choice, left_of, none_left, rule_of};
+ghost use Rattle.prettyless_printer.specs.Due.{Pays, PaysRun, due_of, nothing_due, unions_due};
 ghost use Rattle.prettyless_printer.specs.Runs.{RunReaches, InChoice, RunsToEndOrStops, ChoosesOrStops, RunsCommandsOrStops, station_of};
 
 use crate::answer::{Choice, RunResult, TrialResult, TurnResult};
@@ -139,6 +140,8 @@ impl<N: Walk> Run<N> {
         ensures course { (refused : ℕ) → CommandsCourse self.old.printer.options
             (place_at (standing N.tree self.old.printer) self.old.visits.probes (around [] N.HAS_SUMMARIES refused))
             N.HAS_SUMMARIES refused (station_of N.tree self.new (seen_by W.Render out.new)) result }
+        ensures pays { unions_due (due_of N.tree self.old) ≡ 0
+            → PaysRun N.tree (rule_of N.HAS_SUMMARIES limit) (due_of N.tree self.old) self.new result }
         ensures summed { OnOk result (IsSummed N.HAS_SUMMARIES N.tree self.new.printer.commands) }
     {
         'work: while self.printer.commands.len() > 0 {
@@ -171,6 +174,8 @@ impl<N: Walk> Run<N> {
         ensures course { (refused : ℕ) → EndCourseOrStop self.old.printer.options
             (place_at (standing N.tree self.old.printer) self.old.visits.probes (around [] N.HAS_SUMMARIES refused))
             N.HAS_SUMMARIES refused (station_of N.tree self.new (seen_by W.Render out.new)) result }
+        ensures pays { unions_due (due_of N.tree self.old) ≡ 0
+            → PaysRun N.tree (rule_of N.HAS_SUMMARIES limit) (due_of N.tree self.old) self.new result }
         ensures summed { OnOk result (IsSummed N.HAS_SUMMARIES N.tree self.new.printer.commands) }
     {
         'rounds: loop {
@@ -204,6 +209,8 @@ impl<N: Walk> Run<N> {
             → EndCourseOrStop self.old.printer.options
             (place_at (standing N.tree self.old.printer) self.old.visits.probes (around ws N.HAS_SUMMARIES refused))
             N.HAS_SUMMARIES refused (station_of N.tree self.new (seen_by W.Render out.new)) result }
+        ensures pays { self.old.trials.open.items ≡ [] → unions_due (due_of N.tree self.old) ≡ 0
+            → PaysRun N.tree (rule_of N.HAS_SUMMARIES limit) (due_of N.tree self.old) self.new result }
         ensures summed { OnOk result (IsSummed N.HAS_SUMMARIES N.tree self.new.printer.commands) }
     {
         if self.trials.is_empty() {
@@ -228,6 +235,8 @@ impl<N: Walk> Run<N> {
             → EndCourse self.old.printer.options
             (place_at (standing N.tree self.old.printer) self.old.visits.probes (around ws N.HAS_SUMMARIES refused))
             self.new.visits.probes refused result }
+        ensures pays { self.old.trials.open.items ≡ [] → unions_due (due_of N.tree self.old) ≡ 0
+            → Pays (rule_of N.HAS_SUMMARIES (2 ^ 64 - 1)) (due_of N.tree self.old) (nothing_due self.new.visits) }
     {
         match self.resume(out, u64::MAX)? {
             RunResult::Finished => Ok(()),

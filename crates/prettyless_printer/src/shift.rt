@@ -14,6 +14,7 @@ ghost use Rattle.prettyless_printer.specs.Runs.{RunReaches, station_of};
 ghost use Rattle.prettyless_printer.specs.Linear.{IsLinearBound, IsLinearStart};
 ghost use Rattle.prettyless_printer.specs.Spending.{EndsOverTable, left_of};
 ghost use Rattle.prettyless_printer.specs.CourseOf.{EndCourse, EndCourses, RefusedOnce, around, place_at};
+ghost use Rattle.prettyless_printer.specs.Due.{PaysOverTable, PaysToEnd, due_of, unions_due};
 
 use crate::answer::RunResult;
 use crate::buffer::Buffer;
@@ -114,6 +115,7 @@ impl<N: Walk> Run<N> {
             → EndsOverTable (W.document_errors out.new) a (left_of N.tree self.old) (seen_by W.Render out.new) self.new.visits r)) }
         ensures course { IfOk result (λ o. IfSome o (λ r.
             EndCourses N.HAS_SUMMARIES (station_of N.tree self.old (seen_by W.Render out.old)) self.new.visits.probes r)) }
+        ensures pays { IfOk result (λ o. IfSome o (λ _. PaysOverTable N.tree self.old self.new.visits)) }
         ensures large { IfOk result (λ o. IfNone o (min room 4294967294 < run_nodes N.tree self.old)) }
         ensures none { IfOk result (λ o. IfNone o ((out.new ≡ out.old) × (self.new ≡ self.old))) }
         ensures refused { OnErr result ((out.new ≡ out.old) × (self.new ≡ self.old)) }
@@ -157,6 +159,7 @@ impl<N: Walk> Run<N> {
             EndCourses N.HAS_SUMMARIES (station_of N.tree self.old (seen_by W.Render out.old)) self.new.visits.probes r) }
         ensures made { IfSome result (λ _. refused.new ≡ refused.old) }
         ensures refuses { RefusedOnce room refused.old refused.new }
+        ensures pays { IfSome result (λ _. PaysOverTable N.tree self.old self.new.visits) }
         ensures large { IfNone result (0 < room → refused.new ≡ 0 → min room 4294967294 < run_nodes N.tree self.old) }
         ensures none { IfNone result ((out.new ≡ out.old) × (self.new ≡ self.old)) }
         ensures rises { refused.old ≤ refused.new }
@@ -195,6 +198,7 @@ impl<N: Walk> Run<N> {
         ensures twice { IsLinearStart (standing N.tree self.old.printer) → refused.new ≡ 0 → 0 < room_at_first
             → nodes (tasks_of N.tree self.old.printer) ≤ room_at_first
             → IsLinearBound 2 0 (nodes (tasks_of N.tree self.old.printer)) self.old.visits self.new.visits }
+        ensures pays { unions_due (due_of N.tree self.old) ≡ 0 → PaysToEnd (due_of N.tree self.old) self.new.visits }
     {
         let mut policy = ShiftPolicy::new(self.visits);
         let mut room = room_at_first;

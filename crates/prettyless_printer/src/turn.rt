@@ -8,6 +8,7 @@ ghost use Rattle.prettyless_printer.specs.Course.{Around};
 ghost use Rattle.prettyless_printer.specs.CourseOf.{GoesOn, TurnCourse, place_at};
 ghost use Rattle.prettyless_printer.specs.Visits.{Plain, visited_more};
 ghost use Rattle.prettyless_printer.specs.Spending.{Spends, after_turn, left, rule_of};
+ghost use Rattle.prettyless_printer.specs.Due.{PaysTurn, due, unions_due};
 ghost use Rattle.prettyless_printer.specs.Turns.{Advances, StopsPast};
 
 use crate::answer::{Choice, TurnResult};
@@ -58,6 +59,9 @@ pub fn turn<N: Walk, W: Render>(
         → GoesOn u (tasks_of N.tree printer.old) (state_at (standing N.tree printer.old))
         → TurnCourse N.tree printer.old.options (place_at (standing N.tree printer.old) visits.old.probes u) u
         (standing N.tree printer.new) visits.new.probes result }
+    ensures pays { unions_due (due (standing N.tree printer.old) visits.old) ≡ 0 → PaysTurn
+        (rule_of N.HAS_SUMMARIES limit)
+        (due (standing N.tree printer.old) visits.old) (standing N.tree printer.new) visits.new result }
     ensures summed { OnOk result (IsSummed N.HAS_SUMMARIES N.tree printer.new.commands) }
 {
     let Some(command) = printer.commands.pop() else {

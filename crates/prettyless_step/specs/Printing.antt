@@ -1,7 +1,7 @@
 -- The printer's state as the definitions see it, and what a step of the code shows of the step that is defined.
-use Rattle.std.specs.Prelude.{◌≡◌, ◌≤◌, ℕ, List, [], ◌∷◌, ◌++◌, drop, Result, Ok, Err}
+use Rattle.std.specs.Prelude.{◌≡◌, ◌≤◌, ℕ, List, [], ◌∷◌, ◌++◌, drop, false, true, Result, Ok, Err}
 use Rattle.prettyless_model.specs.Tree.{Tree}
-use Rattle.prettyless_model.specs.Layout.{State, Entry}
+use Rattle.prettyless_model.specs.Layout.{State, Entry, some_pending}
 use Rattle.prettyless_model.specs.declared.mode.Mode.{Mode}
 use Rattle.prettyless_model.specs.declared.mode.Mode.TheVariants.{Flat}
 use Rattle.prettyless_probe.specs.Stack.{Task, make_task, follow, room_of, stack_of, trees}
@@ -74,3 +74,9 @@ IsStepped _ = Unit {0}
 abbrev pub IsSteppedOrRefused : {N E : Type 0} → Result (StepResult N) E → Type 0
 IsSteppedOrRefused (Ok taken) = IsStepped taken
 IsSteppedOrRefused (Err e) = Unit {0}
+
+-- the queue's start stays where nothing was pending, and where something is
+abbrev pub StartStays : {N : Type 0} → (N → Tree) → Printer N → Printer N → Type 0
+StartStays f p q =
+    (some_pending (state_of f p).pending ≡ false → q.queue.start ≡ p.queue.start)
+    × (some_pending (state_of f q).pending ≡ true → q.queue.start ≡ p.queue.start)

@@ -81,6 +81,7 @@ impl<N: Copy> Queue<N> {
     pub fn forget_laid(&mut self)
         ensures pending { drop self.new.start self.new.nodes.items ≡ drop self.old.start self.old.nodes.items }
         ensures forgotten { drop self.old.start self.old.nodes.items ≡ [] → self.new.nodes.items ≡ [] }
+        ensures start { self.old.start ≡ 0 → self.new.start ≡ 0 }
     {
         if self.start > 0 {
             self.clear_laid();
@@ -92,6 +93,7 @@ impl<N: Copy> Queue<N> {
     fn clear_laid(&mut self)
         ensures pending { drop self.new.start self.new.nodes.items ≡ drop self.old.start self.old.nodes.items }
         ensures forgotten { drop self.old.start self.old.nodes.items ≡ [] → self.new.nodes.items ≡ [] }
+        ensures start { self.old.start ≡ 0 → self.new.start ≡ 0 }
     {
         if self.start == self.nodes.len() {
             self.nodes.clear();

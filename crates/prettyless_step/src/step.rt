@@ -8,7 +8,7 @@ ghost use Rattle.prettyless_model.specs.declared.mode.Mode.TheVariants.{Break, F
 ghost use Rattle.prettyless_probe.specs.Stack.{room_of};
 ghost use Rattle.prettyless_step.specs.Steps.{at_once, break_step, counted_payload, decided_by_metrics, is_rejected, step_of, union_step};
 ghost use Rattle.prettyless_step.specs.Piece.{piece_bytes};
-ghost use Rattle.prettyless_step.specs.Printing.{IsStopped, Shows, Writes, following, state_of, tasks_of};
+ghost use Rattle.prettyless_step.specs.Printing.{IsStopped, Shows, StartStays, Writes, following, state_of, tasks_of};
 ghost use Rattle.prettyless_probe.specs.Costs.{ProbeCosts};
 ghost use Rattle.prettyless_probe.specs.Probing.{is_fit};
 ghost use Rattle.prettyless_step.specs.Costs.{StepCosts};
@@ -144,6 +144,7 @@ fn break_line<N: Walk>(
         (following N.tree printer.old) (state_of N.tree printer.old))
         printer.old printer.new) }
     ensures queue { some_pending (state_of N.tree printer.old).pending ≡ false → printer.new.queue ≡ printer.old.queue }
+    ensures start { OnOk result (StartStays N.tree printer.old printer.new) }
     ensures past { IfOk result (λ taken. IsStopped taken → ⊥) }
     ensures summed { OnOk result (IsSummed N.HAS_SUMMARIES N.tree printer.new.commands) }
 {
@@ -291,6 +292,7 @@ pub fn step<'v, N: Walk>(
         (tasks_of N.tree printer.old) (state_of N.tree printer.old) limit visits.old visits.new }
     ensures queue { suffix_depth (N.tree node.now) ≡ 0 → some_pending (state_of N.tree printer.old).pending ≡ false
         → printer.new.queue ≡ printer.old.queue }
+    ensures start { OnOk result (StartStays N.tree printer.old printer.new) }
     ensures summed { OnOk result (IsSummed N.HAS_SUMMARIES N.tree printer.new.commands) }
 {
     match node.view() {

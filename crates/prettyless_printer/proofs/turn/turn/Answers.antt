@@ -1,4 +1,4 @@
-use Rattle.std.proofs.Common.{[], ◌∷◌, ◌∙◌, Result, subst, length, ap, append-nil, arith, refl, sym}
+use Rattle.std.proofs.Common.{[], ◌∷◌, ◌∙◌, Result, subst, length, drop, ap, append-nil, arith, refl, sym}
 use Rattle.prettyless_sink.specs.Sink.{known}
 use Rattle.prettyless_model.specs.declared.mode.Mode.TheVariants.{Flat}
 use Rattle.prettyless_probe.specs.Stack.{make_task, stack_of, task, trees}
@@ -21,6 +21,7 @@ use Rattle.prettyless_printer.proofs.Standings.{choice_there, descended, step_fr
 use Rattle.prettyless_printer.proofs.Visits.{visited_more-zero}
 use Rattle.prettyless_printer.proofs.Spending.{spends_all, spends_begun, spends_error, spends_choice, spends_down, spends_failed}
 use Rattle.prettyless_printer.proofs.Spending.{spends_moved, takes}
+use Rattle.prettyless_printer.proofs.Paying.{pays_all, pays_begun, pays_choice, pays_down, pays_error, pays_failed, pays_laid, pays_moved}
 use Rattle.prettyless_printer.proofs.Laying.{laying_begins, spends_laid}
 use Rattle.prettyless_printer.proofs.Advancing.{advances_choice, advances_failed, advances_refused, advances_sink_failed, advances_moved}
 use Rattle.prettyless_printer.proofs.turn.turn.Goals as goal
@@ -46,6 +47,9 @@ down-init g c =
           c.in-Some.ensures.popped refl);
       course = λ u has on. course_begins (standing f p) (standing f (record p { commands = c.pop.new.self })) c.in-Some.ensures.popped refl
           on;
+      pays = λ free. rw none
+          (pays_begun _ (standing f p) (standing f (record p { commands = c.pop.new.self })) (task f c.in-Some.command) v
+          c.in-Some.ensures.popped refl free);
     }
 
 pub down-preserved-in-Ok-Descend : goal.down-preserved-in-Ok-Descend
@@ -69,13 +73,17 @@ down-preserved-in-Ok-Descend g c =
           c.in-Ok-Descend.field-0-is c.in-Ok-Descend.ensures.step);
       summed = c.in-Ok-Descend.ensures.summed;
       course = λ u has on. course_down (c.down.invariant.course u has on) has
-          (asks_here f (make_task c.down.indent c.down.mode (f c.down.node)) c.down.printer hand.options c.step.ensures.rises
-          c.step.ensures.counted (λ needs few. c.in-Ok-Descend.ensures.reads needs few (subst IsStepped (sym c.in-Ok-Descend.field-0-is) tt)))
+          (asks_here f (make_task c.down.indent c.down.mode (f c.down.node)) c.down.printer hand.options c.step.ensures.visits.rises
+          c.step.ensures.visits.counted (λ needs few. c.in-Ok-Descend.ensures.visits.reads needs few (subst IsStepped (sym c.in-Ok-Descend.field-0-is) tt)))
           (descended f c.in-Ok-Descend.next_indent c.down.mode c.in-Ok-Descend.next _ c.down.printer q
           (shown f c.down.printer q c.in-Ok-Descend.field-0 (step_result.Descend c.in-Ok-Descend.next_indent c.in-Ok-Descend.next) hand
           c.in-Ok-Descend.field-0-is c.in-Ok-Descend.ensures.step));
       spends = λ plain. spends_down f c.down.printer q c.in-Ok-Descend.next_indent c.down.mode c.in-Ok-Descend.next took plain
           c.step.ensures.queue (shown f c.down.printer q c.in-Ok-Descend.field-0
+          (step_result.Descend c.in-Ok-Descend.next_indent c.in-Ok-Descend.next) hand
+          c.in-Ok-Descend.field-0-is c.in-Ok-Descend.ensures.step);
+      pays = λ free. pays_down f c.down.printer took _ (c.down.invariant.pays free) q c.in-Ok-Descend.next_indent c.down.mode
+          c.in-Ok-Descend.next (shown f c.down.printer q c.in-Ok-Descend.field-0
           (step_result.Descend c.in-Ok-Descend.next_indent c.in-Ok-Descend.next) hand
           c.in-Ok-Descend.field-0-is c.in-Ok-Descend.ensures.step);
     }
@@ -102,13 +110,17 @@ down-preserved g c =
           c.in-Ok-DescendFlat.field-0-is c.in-Ok-DescendFlat.ensures.step);
       summed = c.in-Ok-DescendFlat.ensures.summed;
       course = λ u has on. course_down (c.down.invariant.course u has on) has
-          (asks_here f (make_task c.down.indent c.down.mode (f c.down.node)) c.down.printer hand.options c.step.ensures.rises
-          c.step.ensures.counted (λ needs few. c.in-Ok-DescendFlat.ensures.reads needs few (subst IsStepped (sym c.in-Ok-DescendFlat.field-0-is) tt)))
+          (asks_here f (make_task c.down.indent c.down.mode (f c.down.node)) c.down.printer hand.options c.step.ensures.visits.rises
+          c.step.ensures.visits.counted (λ needs few. c.in-Ok-DescendFlat.ensures.visits.reads needs few (subst IsStepped (sym c.in-Ok-DescendFlat.field-0-is) tt)))
           (descended f c.in-Ok-DescendFlat.next_indent Flat c.in-Ok-DescendFlat.next _ c.down.printer q
           (shown f c.down.printer q c.in-Ok-DescendFlat.field-0 (step_result.DescendFlat c.in-Ok-DescendFlat.next_indent c.in-Ok-DescendFlat.next) hand
           c.in-Ok-DescendFlat.field-0-is c.in-Ok-DescendFlat.ensures.step));
       spends = λ plain. spends_down f c.down.printer q c.in-Ok-DescendFlat.next_indent Flat c.in-Ok-DescendFlat.next took plain
           c.step.ensures.queue (shown f c.down.printer q c.in-Ok-DescendFlat.field-0
+          (step_result.DescendFlat c.in-Ok-DescendFlat.next_indent c.in-Ok-DescendFlat.next) hand c.in-Ok-DescendFlat.field-0-is
+          c.in-Ok-DescendFlat.ensures.step);
+      pays = λ free. pays_down f c.down.printer took _ (c.down.invariant.pays free) q c.in-Ok-DescendFlat.next_indent Flat
+          c.in-Ok-DescendFlat.next (shown f c.down.printer q c.in-Ok-DescendFlat.field-0
           (step_result.DescendFlat c.in-Ok-DescendFlat.next_indent c.in-Ok-DescendFlat.next) hand c.in-Ok-DescendFlat.field-0-is
           c.in-Ok-DescendFlat.ensures.step);
     }
@@ -463,8 +475,8 @@ returns-in-Err-clause-course g c =
     let f = g.N.Walk.tree in
     rw c.count_more.ensures.more
     (λ u has on. course_refused (c.down.invariant.course u has on) has
-    (asks_in_part f (make_task c.down.indent c.down.mode (f c.down.node)) c.down.printer c.down.invariant.hand.options c.step.ensures.rises
-    c.step.ensures.counted c.step.ensures.reads_at_most))
+    (asks_in_part f (make_task c.down.indent c.down.mode (f c.down.node)) c.down.printer c.down.invariant.hand.options c.step.ensures.visits.rises
+    c.step.ensures.visits.counted c.step.ensures.visits.reads_at_most))
 
 pub returns-in-Ok-Silent-clause-course : goal.returns-in-Ok-Silent-clause-course
 returns-in-Ok-Silent-clause-course g c =
@@ -473,8 +485,8 @@ returns-in-Ok-Silent-clause-course g c =
     let hand = c.down.invariant.hand in
     rw c.count_more-in-Ok-Silent.ensures.more
     (λ u has on. course_wrote (c.down.invariant.course u has on) has
-    (asks_here f (make_task c.down.indent c.down.mode (f c.down.node)) c.down.printer hand.options c.step.ensures.rises
-    c.step.ensures.counted (λ needs few. c.in-Ok-Silent.ensures.reads needs few (subst IsStepped (sym c.in-Ok-Silent.field-0-is) tt)))
+    (asks_here f (make_task c.down.indent c.down.mode (f c.down.node)) c.down.printer hand.options c.step.ensures.visits.rises
+    c.step.ensures.visits.counted (λ needs few. c.in-Ok-Silent.ensures.visits.reads needs few (subst IsStepped (sym c.in-Ok-Silent.field-0-is) tt)))
     (wrote f _ [] c.down.printer q (shown f c.down.printer q c.in-Ok-Silent.field-0 step_result.Silent hand c.in-Ok-Silent.field-0-is
     c.in-Ok-Silent.ensures.step)))
 
@@ -486,8 +498,8 @@ returns-in-Ok-Failed-clause-course g c =
     let t = make_task c.down.indent c.down.mode (f c.down.node) in
     rw c.count_more-in-Ok-Failed.ensures.more
     (λ u has on. course_failed (c.down.invariant.course u has on)
-    (asks_here f t c.down.printer hand.options c.step.ensures.rises
-    c.step.ensures.counted (λ needs few. c.in-Ok-Failed.ensures.reads needs few (subst IsStepped (sym c.in-Ok-Failed.field-0-is) tt)))
+    (asks_here f t c.down.printer hand.options c.step.ensures.visits.rises
+    c.step.ensures.visits.counted (λ needs few. c.in-Ok-Failed.ensures.visits.reads needs few (subst IsStepped (sym c.in-Ok-Failed.field-0-is) tt)))
     (stuck_there f t.mode (step_from c.args.printer.now.options t (standing f c.down.printer)) c.down.printer q
     (shown f c.down.printer q c.in-Ok-Failed.field-0 step_result.Failed hand c.in-Ok-Failed.field-0-is c.in-Ok-Failed.ensures.step)).0)
 
@@ -503,8 +515,8 @@ returns-in-Ok-Choice-clause-course g c =
     hand c.in-Ok-Choice.field-0-is c.in-Ok-Choice.ensures.step) in
     rw c.count_more-in-Ok-Choice.ensures.more
     (λ u has on. course_choice c.in-Ok-Choice.indent (f c.in-Ok-Choice.first) (f c.in-Ok-Choice.second) (c.down.invariant.course u has on)
-    (asks_here f t c.down.printer hand.options c.step.ensures.rises
-    c.step.ensures.counted (λ needs few. c.in-Ok-Choice.ensures.reads needs few (subst IsStepped (sym c.in-Ok-Choice.field-0-is) tt)))
+    (asks_here f t c.down.printer hand.options c.step.ensures.visits.rises
+    c.step.ensures.visits.counted (λ needs few. c.in-Ok-Choice.ensures.visits.reads needs few (subst IsStepped (sym c.in-Ok-Choice.field-0-is) tt)))
     there.0 there.1)
 
 pub returns-in-Ok-write_piece-clause-course : goal.returns-in-Ok-write_piece-clause-course
@@ -514,8 +526,8 @@ returns-in-Ok-write_piece-clause-course g c =
     let hand = c.down.invariant.hand in
     rw c.count_more-in-Ok-Emit.ensures.more
     (λ u has on. course_wrote (c.down.invariant.course u has on) has
-    (asks_here f (make_task c.down.indent c.down.mode (f c.down.node)) c.down.printer hand.options c.step.ensures.rises
-    c.step.ensures.counted (λ needs few. c.in-Ok-Emit.ensures.reads needs few (subst IsStepped (sym c.in-Ok-Emit.field-0-is) tt)))
+    (asks_here f (make_task c.down.indent c.down.mode (f c.down.node)) c.down.printer hand.options c.step.ensures.visits.rises
+    c.step.ensures.visits.counted (λ needs few. c.in-Ok-Emit.ensures.visits.reads needs few (subst IsStepped (sym c.in-Ok-Emit.field-0-is) tt)))
     (wrote f _ (piece_bytes c.in-Ok-Emit.piece) c.down.printer q (shown f c.down.printer q c.in-Ok-Emit.field-0
     (step_result.Emit c.in-Ok-Emit.piece) hand c.in-Ok-Emit.field-0-is c.in-Ok-Emit.ensures.step)))
 
@@ -526,8 +538,8 @@ returns-in-Err-write_piece-clause-course g c =
     let hand = c.down.invariant.hand in
     rw c.count_more-in-Ok-Emit.ensures.more
     (λ u has on. stops_here (course_wrote (c.down.invariant.course u has on) has
-    (asks_here f (make_task c.down.indent c.down.mode (f c.down.node)) c.down.printer hand.options c.step.ensures.rises
-    c.step.ensures.counted (λ needs few. c.in-Ok-Emit.ensures.reads needs few (subst IsStepped (sym c.in-Ok-Emit.field-0-is) tt)))
+    (asks_here f (make_task c.down.indent c.down.mode (f c.down.node)) c.down.printer hand.options c.step.ensures.visits.rises
+    c.step.ensures.visits.counted (λ needs few. c.in-Ok-Emit.ensures.visits.reads needs few (subst IsStepped (sym c.in-Ok-Emit.field-0-is) tt)))
     (wrote f _ (piece_bytes c.in-Ok-Emit.piece) c.down.printer q (shown f c.down.printer q c.in-Ok-Emit.field-0
     (step_result.Emit c.in-Ok-Emit.piece) hand c.in-Ok-Emit.field-0-is c.in-Ok-Emit.ensures.step))))
 
@@ -539,8 +551,8 @@ returns-in-Err-make_room-clause-course g c =
     let n = c.in-Ok-DescendTexts.next in
     let hand = c.down.invariant.hand in
     let t = make_task c.down.indent c.down.mode (f c.down.node) in
-    let asks = asks_here f t c.down.printer hand.options c.step.ensures.rises c.step.ensures.counted
-    (λ needs few. c.in-Ok-DescendTexts.ensures.reads needs few (subst IsStepped (sym c.in-Ok-DescendTexts.field-0-is) tt)) in
+    let asks = asks_here f t c.down.printer hand.options c.step.ensures.visits.rises c.step.ensures.visits.counted
+    (λ needs few. c.in-Ok-DescendTexts.ensures.visits.reads needs few (subst IsStepped (sym c.in-Ok-DescendTexts.field-0-is) tt)) in
     let texts = shown f c.down.printer q c.in-Ok-DescendTexts.field-0 (step_result.DescendTexts i n) hand c.in-Ok-DescendTexts.field-0-is
     c.in-Ok-DescendTexts.ensures.step in
     let down = descended f i Flat n (step_from c.args.printer.now.options t (standing f c.down.printer)) c.down.printer q texts.0 in
@@ -555,8 +567,8 @@ returns-in-Ok-lay_texts-clause-course g c =
     let n = c.in-Ok-DescendTexts.next in
     let hand = c.down.invariant.hand in
     let t = make_task c.down.indent c.down.mode (f c.down.node) in
-    let asks = asks_here f t c.down.printer hand.options c.step.ensures.rises c.step.ensures.counted
-    (λ needs few. c.in-Ok-DescendTexts.ensures.reads needs few (subst IsStepped (sym c.in-Ok-DescendTexts.field-0-is) tt)) in
+    let asks = asks_here f t c.down.printer hand.options c.step.ensures.visits.rises c.step.ensures.visits.counted
+    (λ needs few. c.in-Ok-DescendTexts.ensures.visits.reads needs few (subst IsStepped (sym c.in-Ok-DescendTexts.field-0-is) tt)) in
     let texts = shown f c.down.printer q c.in-Ok-DescendTexts.field-0 (step_result.DescendTexts i n) hand c.in-Ok-DescendTexts.field-0-is
     c.in-Ok-DescendTexts.ensures.step in
     let down = descended f i Flat n (step_from c.args.printer.now.options t (standing f c.down.printer)) c.down.printer q texts.0 in
@@ -578,10 +590,187 @@ returns-in-Err-lay_texts-clause-course g c =
     let n = c.in-Ok-DescendTexts.next in
     let hand = c.down.invariant.hand in
     let t = make_task c.down.indent c.down.mode (f c.down.node) in
-    let asks = asks_here f t c.down.printer hand.options c.step.ensures.rises c.step.ensures.counted
-    (λ needs few. c.in-Ok-DescendTexts.ensures.reads needs few (subst IsStepped (sym c.in-Ok-DescendTexts.field-0-is) tt)) in
+    let asks = asks_here f t c.down.printer hand.options c.step.ensures.visits.rises c.step.ensures.visits.counted
+    (λ needs few. c.in-Ok-DescendTexts.ensures.visits.reads needs few (subst IsStepped (sym c.in-Ok-DescendTexts.field-0-is) tt)) in
     let texts = shown f c.down.printer q c.in-Ok-DescendTexts.field-0 (step_result.DescendTexts i n) hand c.in-Ok-DescendTexts.field-0-is
     c.in-Ok-DescendTexts.ensures.step in
     let down = descended f i Flat n (step_from c.args.printer.now.options t (standing f c.down.printer)) c.down.printer q texts.0 in
     let probes = rw c.count_more-in-Ok-DescendTexts.ensures.more at c.lay_texts.ensures.probes in
     λ u has on. stops_at (course_down (c.down.invariant.course u has on) has asks down).comes (sym probes)
+
+-- ---- Without unions
+
+pub returns-in-Ok-lay_texts-clause-pays : goal.returns-in-Ok-lay_texts-clause-pays
+returns-in-Ok-lay_texts-clause-pays g c =
+    let f = g.N.Walk.tree in
+    let q = c.step.new.printer in
+    let k = c.one_more-in-Ok-DescendTexts.result in
+    let x = visited_more k c.step.new.visits in
+    let i = c.in-Ok-DescendTexts.field-0-0 in
+    let n = c.in-Ok-DescendTexts.next in
+    let laid = c.lay_texts.ensures in
+    let hand = c.down.invariant.hand in
+    let one = visit f c.down.count c.down.visits c.down.printer c.step.new.visits k hand c.one_more-in-Ok-DescendTexts.ensures.one
+    c.step.ensures.visits.printer
+    c.step.ensures.visits.rises c.step.ensures.visits.counted in
+    let took = takes f c.down.printer hand one
+    (c.in-Ok-DescendTexts.ensures.visits.within (subst IsStepped (sym c.in-Ok-DescendTexts.field-0-is) tt)) c.step.ensures.visits.counted
+    c.step.ensures.visits.few
+    c.down.invariant.spends in
+    let probes = rw c.count_more-in-Ok-DescendTexts.ensures.more at laid.probes in
+    let rises = rw c.count_more-in-Ok-DescendTexts.ensures.more at laid.rises in
+    let counted = rw c.count_more-in-Ok-DescendTexts.ensures.more at laid.counted in
+    λ free.
+    (pays_laid (standing f q) (standing f c.lay_texts.new.printer) c.lay_texts.new.visits
+    (ap (stack_of f) laid.commands ∙ ap (λ (z : Printer g.row.N.Denot). stack_of f z.commands) c.make_room.ensures.others)
+    (ap (λ (z : Queue g.row.N.Denot). drop z.start (trees f z.nodes.items)) laid.queue
+    ∙ ap (λ (z : Printer g.row.N.Denot). drop z.queue.start (trees f z.queue.nodes.items)) c.make_room.ensures.others) probes rises counted
+    (pays_down f c.down.printer took _ (c.down.invariant.pays free) q i Flat n
+    (shown f c.down.printer q c.in-Ok-DescendTexts.field-0 (step_result.DescendTexts i n) hand c.in-Ok-DescendTexts.field-0-is
+    c.in-Ok-DescendTexts.ensures.step).0))
+
+pub returns-in-Err-lay_texts-clause-pays : goal.returns-in-Err-lay_texts-clause-pays
+returns-in-Err-lay_texts-clause-pays g c =
+    let f = g.N.Walk.tree in
+    let q = c.step.new.printer in
+    let k = c.one_more-in-Ok-DescendTexts.result in
+    let x = visited_more k c.step.new.visits in
+    let i = c.in-Ok-DescendTexts.field-0-0 in
+    let n = c.in-Ok-DescendTexts.next in
+    let laid = c.lay_texts.ensures in
+    let hand = c.down.invariant.hand in
+    let one = visit f c.down.count c.down.visits c.down.printer c.step.new.visits k hand c.one_more-in-Ok-DescendTexts.ensures.one
+    c.step.ensures.visits.printer
+    c.step.ensures.visits.rises c.step.ensures.visits.counted in
+    let took = takes f c.down.printer hand one
+    (c.in-Ok-DescendTexts.ensures.visits.within (subst IsStepped (sym c.in-Ok-DescendTexts.field-0-is) tt)) c.step.ensures.visits.counted
+    c.step.ensures.visits.few
+    c.down.invariant.spends in
+    let probes = rw c.count_more-in-Ok-DescendTexts.ensures.more at laid.probes in
+    let rises = rw c.count_more-in-Ok-DescendTexts.ensures.more at laid.rises in
+    let counted = rw c.count_more-in-Ok-DescendTexts.ensures.more at laid.counted in
+    λ free.
+    pays_all (pays_laid (standing f q) (standing f c.lay_texts.new.printer) c.lay_texts.new.visits
+    (ap (stack_of f) laid.commands ∙ ap (λ (z : Printer g.row.N.Denot). stack_of f z.commands) c.make_room.ensures.others)
+    (ap (λ (z : Queue g.row.N.Denot). drop z.start (trees f z.nodes.items)) laid.queue
+    ∙ ap (λ (z : Printer g.row.N.Denot). drop z.queue.start (trees f z.queue.nodes.items)) c.make_room.ensures.others) probes rises counted
+    (pays_down f c.down.printer took _ (c.down.invariant.pays free) q i Flat n
+    (shown f c.down.printer q c.in-Ok-DescendTexts.field-0 (step_result.DescendTexts i n) hand c.in-Ok-DescendTexts.field-0-is
+    c.in-Ok-DescendTexts.ensures.step).0))
+
+pub returns-in-Err-make_room-clause-pays : goal.returns-in-Err-make_room-clause-pays
+returns-in-Err-make_room-clause-pays g c =
+    let f = g.N.Walk.tree in
+    let k = c.one_more-in-Ok-DescendTexts.result in
+    let hand = c.down.invariant.hand in
+    let more = c.one_more-in-Ok-DescendTexts.ensures.one in
+    let one = visit f c.down.count c.down.visits c.down.printer c.step.new.visits k hand more c.step.ensures.visits.printer
+    c.step.ensures.visits.rises c.step.ensures.visits.counted in
+    let took = takes f c.down.printer hand one
+    (c.in-Ok-DescendTexts.ensures.visits.within (subst IsStepped (sym c.in-Ok-DescendTexts.field-0-is) tt)) c.step.ensures.visits.counted
+    c.step.ensures.visits.few c.down.invariant.spends in
+    rw c.count_more-in-Ok-DescendTexts.ensures.more
+    (λ free. pays_error f c.down.printer took _ (c.down.invariant.pays free))
+
+pub returns-in-Err-clause-pays : goal.returns-in-Err-clause-pays
+returns-in-Err-clause-pays g c =
+    let f = g.N.Walk.tree in
+    let n = c.one_more.result in
+    let x = visited_more n c.step.new.visits in
+    let hand = c.down.invariant.hand in
+    let one = visit f c.down.count c.down.visits c.down.printer c.step.new.visits n hand c.one_more.ensures.one c.step.ensures.visits.printer
+    c.step.ensures.visits.rises c.step.ensures.visits.counted in
+    let took = takes f c.down.printer hand one (c.in-Err.ensures.visits.within tt) c.step.ensures.visits.counted
+    c.step.ensures.visits.few c.down.invariant.spends in
+    rw c.count_more.ensures.more
+    (λ free. pays_error f c.down.printer took _ (c.down.invariant.pays free))
+
+pub returns-in-Ok-Silent-clause-pays : goal.returns-in-Ok-Silent-clause-pays
+returns-in-Ok-Silent-clause-pays g c =
+    let f = g.N.Walk.tree in
+    let q = c.step.new.printer in
+    let n = c.one_more-in-Ok-Silent.result in
+    let x = visited_more n c.step.new.visits in
+    let hand = c.down.invariant.hand in
+    let one = visit f c.down.count c.down.visits c.down.printer c.step.new.visits n hand c.one_more-in-Ok-Silent.ensures.one
+    c.step.ensures.visits.printer
+    c.step.ensures.visits.rises c.step.ensures.visits.counted in
+    let took = takes f c.down.printer hand one
+    (c.in-Ok-Silent.ensures.visits.within (subst IsStepped (sym c.in-Ok-Silent.field-0-is) tt)) c.step.ensures.visits.counted c.step.ensures.visits.few
+    c.down.invariant.spends in
+    rw c.count_more-in-Ok-Silent.ensures.more
+    (λ free.
+    pays_moved f c.down.printer took _ (c.down.invariant.pays free) q []
+    (wrote f _ [] c.down.printer q (shown f c.down.printer q c.in-Ok-Silent.field-0 step_result.Silent hand c.in-Ok-Silent.field-0-is
+    c.in-Ok-Silent.ensures.step)))
+
+pub returns-in-Ok-Failed-clause-pays : goal.returns-in-Ok-Failed-clause-pays
+returns-in-Ok-Failed-clause-pays g c =
+    let f = g.N.Walk.tree in
+    let q = c.step.new.printer in
+    let n = c.one_more-in-Ok-Failed.result in
+    let x = visited_more n c.step.new.visits in
+    let hand = c.down.invariant.hand in
+    let one = visit f c.down.count c.down.visits c.down.printer c.step.new.visits n hand c.one_more-in-Ok-Failed.ensures.one
+    c.step.ensures.visits.printer
+    c.step.ensures.visits.rises c.step.ensures.visits.counted in
+    let took = takes f c.down.printer hand one
+    (c.in-Ok-Failed.ensures.visits.within (subst IsStepped (sym c.in-Ok-Failed.field-0-is) tt)) c.step.ensures.visits.counted c.step.ensures.visits.few
+    c.down.invariant.spends in
+    rw c.count_more-in-Ok-Failed.ensures.more
+    (λ free. pays_failed f c.down.printer took _ (c.down.invariant.pays free) q
+    (shown f c.down.printer q c.in-Ok-Failed.field-0 step_result.Failed hand c.in-Ok-Failed.field-0-is c.in-Ok-Failed.ensures.step))
+
+pub returns-in-Ok-Choice-clause-pays : goal.returns-in-Ok-Choice-clause-pays
+returns-in-Ok-Choice-clause-pays g c =
+    let f = g.N.Walk.tree in
+    let q = c.step.new.printer in
+    let n = c.one_more-in-Ok-Choice.result in
+    let x = visited_more n c.step.new.visits in
+    let hand = c.down.invariant.hand in
+    let one = visit f c.down.count c.down.visits c.down.printer c.step.new.visits n hand c.one_more-in-Ok-Choice.ensures.one
+    c.step.ensures.visits.printer
+    c.step.ensures.visits.rises c.step.ensures.visits.counted in
+    let took = takes f c.down.printer hand one
+    (c.in-Ok-Choice.ensures.visits.within (subst IsStepped (sym c.in-Ok-Choice.field-0-is) tt)) c.step.ensures.visits.counted c.step.ensures.visits.few
+    c.down.invariant.spends in
+    (λ free.
+    pays_choice f c.down.printer took _ (c.down.invariant.pays free) q c.in-Ok-Choice.indent c.in-Ok-Choice.first c.in-Ok-Choice.second
+    (shown f c.down.printer q c.in-Ok-Choice.field-0 (step_result.Choice c.in-Ok-Choice.indent c.in-Ok-Choice.first c.in-Ok-Choice.second)
+    hand
+    c.in-Ok-Choice.field-0-is c.in-Ok-Choice.ensures.step))
+
+pub returns-in-Ok-write_piece-clause-pays : goal.returns-in-Ok-write_piece-clause-pays
+returns-in-Ok-write_piece-clause-pays g c =
+    let f = g.N.Walk.tree in
+    let q = c.step.new.printer in
+    let n = c.one_more-in-Ok-Emit.result in
+    let x = visited_more n c.step.new.visits in
+    let hand = c.down.invariant.hand in
+    let one = visit f c.down.count c.down.visits c.down.printer c.step.new.visits n hand c.one_more-in-Ok-Emit.ensures.one
+    c.step.ensures.visits.printer
+    c.step.ensures.visits.rises c.step.ensures.visits.counted in
+    let took = takes f c.down.printer hand one
+    (c.in-Ok-Emit.ensures.visits.within (subst IsStepped (sym c.in-Ok-Emit.field-0-is) tt)) c.step.ensures.visits.counted c.step.ensures.visits.few
+    c.down.invariant.spends in
+    let bytes = piece_bytes c.in-Ok-Emit.piece in
+    rw c.count_more-in-Ok-Emit.ensures.more
+    (λ free.
+    pays_moved f c.down.printer took _ (c.down.invariant.pays free) q bytes
+    (wrote f _ bytes c.down.printer q (shown f c.down.printer q c.in-Ok-Emit.field-0 (step_result.Emit c.in-Ok-Emit.piece) hand
+    c.in-Ok-Emit.field-0-is c.in-Ok-Emit.ensures.step)))
+
+pub returns-in-Err-write_piece-clause-pays : goal.returns-in-Err-write_piece-clause-pays
+returns-in-Err-write_piece-clause-pays g c =
+    let f = g.N.Walk.tree in
+    let n = c.one_more-in-Ok-Emit.result in
+    let x = visited_more n c.step.new.visits in
+    let hand = c.down.invariant.hand in
+    let one = visit f c.down.count c.down.visits c.down.printer c.step.new.visits n hand c.one_more-in-Ok-Emit.ensures.one
+    c.step.ensures.visits.printer
+    c.step.ensures.visits.rises c.step.ensures.visits.counted in
+    let took = takes f c.down.printer hand one
+    (c.in-Ok-Emit.ensures.visits.within (subst IsStepped (sym c.in-Ok-Emit.field-0-is) tt)) c.step.ensures.visits.counted c.step.ensures.visits.few
+    c.down.invariant.spends in
+    rw c.count_more-in-Ok-Emit.ensures.more
+    (λ free. pays_error f c.down.printer took _ (c.down.invariant.pays free))

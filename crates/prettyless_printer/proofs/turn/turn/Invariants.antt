@@ -9,7 +9,9 @@ use Rattle.prettyless_printer.specs.CourseOf.{GoesOn, place_at}
 use Rattle.prettyless_printer.specs.Visits.{Plain, visited_more}
 use Rattle.prettyless_printer.specs.Spending.{Spends, left, rule_of}
 use Rattle.prettyless_printer.proofs.Courses.{InCourse}
+use Rattle.prettyless_printer.specs.Due.{Pays, due, unions_due}
 use Rattle.prettyless_printer.proofs.Descends.{InHand}
+use Rattle.prettyless_printer.proofs.Paying.{due_with}
 use Rattle.prettyless_printer.proofs.Spending.{left_with}
 use Rattle.prettyless_printer.proofs.turn.turn.Given as goal
 
@@ -28,6 +30,9 @@ invariant-down g l =
           → GoesOn u (tasks_of f l.fn.printer) (state_at (standing f l.fn.printer))
           → InCourse l.fn.printer.options (place_at (standing f l.fn.printer) l.fn.visits.probes u) u
           (make_task l.indent l.mode (f l.node)) (standing f l.printer) l.visits.probes;
+      pays : unions_due (due (standing f l.fn.printer) l.fn.visits) ≡ 0 → Pays (rule_of g.N.Walk.HAS_SUMMARIES l.limit)
+          (due (standing f l.fn.printer) l.fn.visits)
+          (due_with (make_task l.indent l.mode (f l.node)) (standing f l.printer) (visited_more l.count l.visits));
     }
 
 abbrev pub decreases-down : goal.decreases-down

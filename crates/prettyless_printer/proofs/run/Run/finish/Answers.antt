@@ -2,6 +2,7 @@ use Rattle.std.proofs.Common.{arith}
 use Rattle.std.proofs.lemmas.Result.{err_from_is_err_and}
 use Rattle.prettyless_printer.specs.declared.answer.RunResult.TheVariants as run_result
 use Rattle.prettyless_printer.proofs.Shifts.{error_anyhow, done_anyhow}
+use Rattle.prettyless_printer.proofs.Paying.{pays_all}
 use Rattle.prettyless_printer.proofs.run.Run.finish.Goals as goal
 
 -- the run is done
@@ -34,3 +35,7 @@ returns-in_err-resume-clause-course g c =
     let residual = err_from_is_err_and c.from_residual.result c.from_residual.ensures.1 in
     rw (residual.1, residual.2)
     c.in_err-resume.ensures.course
+
+-- without unions
+pub returns-clause-pays : goal.returns-clause-pays
+returns-clause-pays g c = λ none free. pays_all (c.in_ok-resume.ensures.pays none free).1

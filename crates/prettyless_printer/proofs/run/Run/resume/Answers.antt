@@ -1,4 +1,4 @@
-use Rattle.std.proofs.Common.{List, ap, subst, sym}
+use Rattle.std.proofs.Common.{List, ap, subst, sym, arith, length}
 use Rattle.std.proofs.lemmas.List.{nil_from_length}
 use Rattle.std.proofs.lemmas.Result.{err_from_is_err_and}
 use Rattle.prettyless_printer.specs.Course.{Waiting}
@@ -176,3 +176,16 @@ returns-in-Shift-clause-course g c = λ ws refused are.
     (place_at (standing f old.printer) old.visits.probes (around v g.N.Walk.HAS_SUMMARIES refused)) g.N.Walk.HAS_SUMMARIES refused
     came.indent came.first came.second came.start (station_of f c.resume_choice.new.self (sink c.resume_choice.new.out))) (sym came.are)
     ((rw c.in-Shift.is at c.in_ok-resume_choice.ensures.course) came.indent came.first came.second came.start came.choice refused))
+
+-- without open trials no choice is resumed
+pub returns-in_err-resume_choice-clause-pays : goal.returns-in_err-resume_choice-clause-pays
+returns-in_err-resume_choice-clause-pays g c = λ none free.
+    absurd (omega (arith, c.is_empty.ensures.some c.if-is_empty.false, ap length none))
+
+pub returns-in-Shift-clause-pays : goal.returns-in-Shift-clause-pays
+returns-in-Shift-clause-pays g c = λ none free.
+    absurd (omega (arith, c.is_empty.ensures.some c.if-is_empty.false, ap length none))
+
+pub returns-in-Finished-clause-pays : goal.returns-in-Finished-clause-pays
+returns-in-Finished-clause-pays g c = λ none free.
+    absurd (omega (arith, c.is_empty.ensures.some c.if-is_empty.false, ap length none))

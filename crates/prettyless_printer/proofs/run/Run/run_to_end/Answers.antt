@@ -14,6 +14,7 @@ use Rattle.prettyless_printer.proofs.Shifts.{round_work_falls, round_stopped, wo
 use Rattle.prettyless_printer.proofs.Spending.{spends_same, spends_then}
 use Rattle.prettyless_printer.proofs.OpenSpending.{spends_error_as}
 use Rattle.prettyless_printer.proofs.RunSpending.{nothing_pending}
+use Rattle.prettyless_printer.proofs.Paying.{pays_all, pays_error_as, pays_flushed, pays_same, pays_then}
 use Rattle.prettyless_printer.proofs.run.Run.run_to_end.Goals as goal
 
 pub rounds-init : goal.rounds-init
@@ -22,6 +23,7 @@ rounds-init g c = record {
   none = c.requires.none;
   spends = λ plain. spends_same _ _;
   course = λ refused. come_same _ _;
+  pays = λ free. pays_same _ _ free;
   summed = c.requires.summed;
 }
 
@@ -87,6 +89,12 @@ rounds-preserved g c =
           (flush_comes (standing f p) (standing f c.flush_end.new.printer) c.run_commands.new.self.visits.probes g.N.Walk.HAS_SUMMARIES refused
           (ran.options ∙ before) ran.done
           (sym (pending_stands f p) ∙ sym c.is_pending.ensures ∙ c.if-not-is_pending.false) flushed.stack flushed.state));
+      pays = λ free.
+          let before = c.rounds.invariant.pays free in
+          let flushes = c.in_ok-flush_end-in-Finished.ensures.flushes in
+          pays_flushed (standing f p) (standing f c.flush_end.new.printer) c.run_commands.new.self.visits
+          ((rw c.in-Finished.is at c.in_ok-run_commands.ensures.works).1).done flushes.stack flushes.state
+          (pays_then before (c.in_ok-run_commands.ensures.pays before.unions).1);
       summed = c.in_ok-flush_end-in-Finished.ensures.summed;
     }
 
@@ -170,3 +178,30 @@ returns-in_err-flush_end-in-Finished-clause-course g c =
     flush_error (Unit {0}) c.in_err-flush_end-in-Finished.field-0.0 c.in_err-flush_end-in-Finished.ensures.none
     (come_then (c.rounds.invariant.course refused)
     (comes_at c.rounds.invariant.continues.options ((rw c.in-Finished.is at c.in_ok-run_commands.ensures.course) refused)))
+
+-- without unions
+pub returns-in_err-run_commands-clause-pays : goal.returns-in_err-run_commands-clause-pays
+returns-in_err-run_commands-clause-pays g c = λ free.
+    let before = c.rounds.invariant.pays free in
+    pays_error_as g.N.Walk.tree c.run_commands.new.self c.from_residual.result c.from_residual.ensures.0
+    (pays_then before (c.in_err-run_commands.ensures.pays before.unions))
+
+pub returns-in-Shift-clause-pays : goal.returns-in-Shift-clause-pays
+returns-in-Shift-clause-pays g c = λ free.
+    let before = c.rounds.invariant.pays free in
+    let after = c.in_ok-run_commands.ensures.pays before.unions in
+    (after.0, pays_then before after.1)
+
+pub returns-then-not-is_pending-clause-pays : goal.returns-then-not-is_pending-clause-pays
+returns-then-not-is_pending-clause-pays g c = λ free.
+    let before = c.rounds.invariant.pays free in
+    let after = c.in_ok-run_commands.ensures.pays before.unions in
+    (after.0, pays_then before after.1)
+
+pub returns-in_err-flush_end-in-Finished-clause-pays : goal.returns-in_err-flush_end-in-Finished-clause-pays
+returns-in_err-flush_end-in-Finished-clause-pays g c = λ free.
+    let before = c.rounds.invariant.pays free in
+    pays_error_as g.N.Walk.tree (record c.run_commands.new.self { printer = c.flush_end.new.printer })
+    c.from_residual-in_err-flush_end-in-Finished.result
+    c.from_residual-in_err-flush_end-in-Finished.ensures.0
+    (pays_all (pays_then before (c.in_ok-run_commands.ensures.pays before.unions).1))

@@ -18,6 +18,7 @@ use Rattle.prettyless_printer.proofs.Shifted.{comes_first, comes_still}
 use Rattle.prettyless_printer.proofs.ShiftSpending.{all_over, always_room, goes_on_without, next_within}
 use Rattle.prettyless_printer.proofs.ShiftSpending.{within_few, within_over, within_start}
 use Rattle.prettyless_printer.proofs.RunSpending.{from_none}
+use Rattle.prettyless_printer.proofs.DueRounds.{round_begins, round_done, round_ends, round_goes, round_still}
 use Rattle.prettyless_printer.proofs.run.Run.run_with_shift.Goals as goal
 
 pub rounds-init : goal.rounds-init
@@ -38,6 +39,7 @@ rounds-init g c =
         start = start;
       };
       first = λ linear none some small. (refl, refl);
+      pays = λ free. round_begins f old c.requires.none free;
       summed = c.requires.summed;
     }
 
@@ -188,6 +190,9 @@ rounds-preserved g c =
           absurd (always_room (c.rounds.invariant.round linear old)
           (record { size = linear.size; large = λ room. c.in_default.ensures.large room none })
           (c.rounds.invariant.first linear old some small).0 some small);
+      pays = λ free.
+          let before = round_still c.in_default.ensures.none.1 (c.rounds.invariant.pays free) in
+          round_goes {s = c.resume.new.self} before (c.in_ok-resume.ensures.pays before.none before.unions);
       summed = c.in_ok-resume.ensures.summed;
     }
 
@@ -231,3 +236,19 @@ returns-in_err-resume-clause-course g c =
     let probes = c.resume.new.self.visits.probes in
     let refused = c.try_shift.new.refused in
     error_after probes refused e here.comes (error_at _ probes refused e same (c.in_err-resume.ensures.course here.waiting refused here.are))
+
+-- without unions
+pub returns-in-Some-clause-pays : goal.returns-in-Some-clause-pays
+returns-in-Some-clause-pays g c = λ free.
+    let before = c.rounds.invariant.pays free in
+    round_ends before (c.in-Some.ensures.pays before.none before.unions)
+
+pub returns-in-Finished-clause-pays : goal.returns-in-Finished-clause-pays
+returns-in-Finished-clause-pays g c = λ free.
+    let before = round_still c.in_default.ensures.none.1 (c.rounds.invariant.pays free) in
+    round_done (round_goes {s = c.resume.new.self} before (c.in_ok-resume.ensures.pays before.none before.unions))
+
+pub returns-in_err-resume-clause-pays : goal.returns-in_err-resume-clause-pays
+returns-in_err-resume-clause-pays g c = λ free.
+    let before = round_still c.in_default.ensures.none.1 (c.rounds.invariant.pays free) in
+    round_ends before (c.in_err-resume.ensures.pays before.none before.unions)

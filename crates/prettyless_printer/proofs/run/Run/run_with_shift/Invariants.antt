@@ -7,6 +7,8 @@ use Rattle.prettyless_printer.specs.Runs.{RunReaches, station_of}
 use Rattle.prettyless_printer.specs.CourseOf.{ComesToStation, around, place_at}
 use Rattle.prettyless_printer.specs.ShiftPolicy.{probe_limit}
 use Rattle.prettyless_printer.specs.Linear.{IsLinearStart}
+use Rattle.prettyless_printer.specs.Due.{due_of, unions_due}
+use Rattle.prettyless_printer.proofs.DueRounds.{DueRound}
 use Rattle.prettyless_printer.proofs.ShiftSpending.{Round}
 use Rattle.prettyless_printer.proofs.run.Run.run_with_shift.Given as goal
 
@@ -26,6 +28,7 @@ invariant-rounds g l =
       round : IsLinearStart (standing f l.fn.self.printer) → l.refused ≡ 0 → Round f n l.room l.fn.self.visits l.policy l.self;
       first : IsLinearStart (standing f l.fn.self.printer) → l.refused ≡ 0 → 0 < l.fn.room_at_first → n ≤ l.fn.room_at_first
           → (l.room ≡ l.fn.room_at_first) × (l.self ≡ l.fn.self);
+      pays : unions_due (due_of f l.fn.self) ≡ 0 → DueRound f l.fn.self l.self;
       summed : IsSummed g.N.Walk.HAS_SUMMARIES f l.self.printer.commands;
     }
 

@@ -11,6 +11,7 @@ use Rattle.prettyless_printer.specs.Open.{held, held_of, run_documents, run_node
 use Rattle.prettyless_printer.specs.Runs.{RunReaches}
 use Rattle.prettyless_printer.proofs.RunCourses.{goes_over_table}
 use Rattle.prettyless_printer.proofs.Shifted.{same_station, shifted_stands, spends_over}
+use Rattle.prettyless_printer.proofs.DueRounds.{none_placed, pays_over}
 use Rattle.prettyless_printer.proofs.run.Run.shift.Goals as goal
 
 -- what was counted and listed has room in a table: each listed node, and each document
@@ -90,3 +91,12 @@ returns-clause-course g c =
     c.in_ok-trials.ensures (shifted_stands f _ c.args.self.now.printer c.in_ok-printer.printer c.in_ok-printer.ensures.shifted)
     c.replace-buffer.ensures.value in
     goes_over_table g.N.Walk.HAS_SUMMARIES c.finish-ended.new.self.visits.probes c.finish-ended.result same c.finish-ended.ensures.course
+
+-- what is due there is what was due
+pub returns-clause-pays : goal.returns-clause-pays
+returns-clause-pays g c = λ none free.
+    let f = g.N.Walk.tree in
+    let old = c.args.self.now in
+    pays_over old.visits (shifted_stands f _ old.printer c.in_ok-printer.printer c.in_ok-printer.ensures.shifted) free
+    (c.finish-ended.ensures.pays
+    (none_placed f _ old.trials.open.items c.in_ok-trials.trials.open.items c.in_ok-trials.ensures none))
