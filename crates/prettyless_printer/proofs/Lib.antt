@@ -25,5 +25,6 @@ pub mod RunSpending
 pub mod Forgetting
 pub mod DueSteps
 pub mod Paying
+pub mod DueQueues
 pub mod DueRounds
 pub mod ShiftSpending

@@ -18,7 +18,7 @@ use Rattle.prettyless_step.proofs.Summaries.{step_has}
 use Rattle.prettyless_printer.specs.Points.{Standing, standing, state_at, Seen, Point, point}
 use Rattle.prettyless_printer.specs.Spending.{Rule}
 use Rattle.prettyless_printer.specs.declared.run.Run.{Run}
-use Rattle.prettyless_printer.specs.Due.{Due, DueHasSummaries, Pays, PaysRun, due, nothing_due, task_visits, pending_visits}
+use Rattle.prettyless_printer.specs.Due.{Due, DueHasSummaries, Pays, PaysRun, due, due_of, nothing_due, task_visits, pending_visits}
 use Rattle.prettyless_printer.specs.Due.{task_unions, pending_unions, unions_due, visits_due}
 use Rattle.prettyless_printer.specs.Suffixes.{most_visits}
 use Rattle.prettyless_printer.proofs.Standings.{Wrote, choice_there, descended, step_from, stuck_there}
@@ -230,16 +230,10 @@ pays_forgets f {r} {a} p q v same h =
 -- ---- Runs
 
 -- a run that ended in an error
-pub pays_error_as : {N A E : Type 0} {r : Rule} {a : Due} (f : N → Tree) (q : Run N) (result : Result A E) → IsErr result
-    → Pays r a (nothing_due q.visits) → PaysRun f r a q result
-pays_error_as f q (Ok x) e h = cc
-pays_error_as f q (Err x) e h = h
-
--- runs in a row, of which the second one may have ended in an error
-pub pays_then_as : {N A E : Type 0} {r : Rule} {a b : Due} (f : N → Tree) (q : Run N) (result : Result A E) → Pays r a b
-    → PaysRun f r b q result → PaysRun f r a q result
-pays_then_as f q (Ok x) h k = (k.0, pays_then h k.1)
-pays_then_as f q (Err e) h k = pays_then h k
+pub pays_error_as : {N A E : Type 0} {r : Rule} (f : N → Tree) (p q : Run N) (result : Result A E) → IsErr result
+    → Pays r (due_of f p) (nothing_due q.visits) → PaysRun f r p q result
+pays_error_as f p q (Ok x) e h = cc
+pays_error_as f p q (Err x) e h = h
 
 -- ---- The end
 

@@ -39,7 +39,8 @@ pub struct Run<N> {
     pub visits: Visits,
 }
 
-// At the end the pending line suffixes become the commands, and the line's gap is written, as before content.
+// At the end the pending line suffixes become the commands, and the line's gap is written, as before content. No trial goes back past
+// that, so the queue forgets them.
 fn flush_end<N: Walk, W: Render>(
     printer: &mut Printer<N>,
     out: &mut W,
@@ -49,13 +50,17 @@ fn flush_end<N: Walk, W: Render>(
     ensures flushes { FlushesEnd (standing N.tree printer.old) (standing N.tree printer.new)
         (seen_by W.Render out.old) (seen_by W.Render out.new) result }
     ensures summed { OnOk result (IsSummed N.HAS_SUMMARIES N.tree printer.new.commands) }
+    ensures start { OnOk result (printer.new.queue.start ≡ 0) }
 {
     match take_pending(printer, 0, Mode::Break) {
         Err(e) => Err(RenderError::Memory(e)),
-        Ok(gap) => match write_gap_and_text(out, gap, "") {
-            Ok(()) => Ok(()),
-            Err(e) => Err(RenderError::Sink(e)),
-        },
+        Ok(gap) => {
+            printer.queue.forget_laid();
+            match write_gap_and_text(out, gap, "") {
+                Ok(()) => Ok(()),
+                Err(e) => Err(RenderError::Sink(e)),
+            }
+        }
     }
 }
 
@@ -125,7 +130,7 @@ impl<N: Walk> Run<N> {
         ensures spends { Plain (standing N.tree self.old.printer)
             → SpendsAs (rule_of N.HAS_SUMMARIES limit) (left_alone N.tree self.old) (left_of N.tree self.new) result }
         ensures pays { unions_due (due_of N.tree self.old) ≡ 0
-            → PaysRun N.tree (rule_of N.HAS_SUMMARIES limit) (due_of N.tree self.old) self.new result }
+            → PaysRun N.tree (rule_of N.HAS_SUMMARIES limit) self.old self.new result }
         ensures summed { OnOk result (IsSummed N.HAS_SUMMARIES N.tree self.new.printer.commands) }
     {
         'work: while self.printer.commands.len() > 0 {
@@ -156,7 +161,7 @@ impl<N: Walk> Run<N> {
         ensures spends { Plain (standing N.tree self.old.printer)
             → SpendsAs (rule_of N.HAS_SUMMARIES limit) (left_alone N.tree self.old) (left_of N.tree self.new) result }
         ensures pays { unions_due (due_of N.tree self.old) ≡ 0
-            → PaysRun N.tree (rule_of N.HAS_SUMMARIES limit) (due_of N.tree self.old) self.new result }
+            → PaysRun N.tree (rule_of N.HAS_SUMMARIES limit) self.old self.new result }
         ensures summed { OnOk result (IsSummed N.HAS_SUMMARIES N.tree self.new.printer.commands) }
     {
         'rounds: loop {
@@ -186,7 +191,7 @@ impl<N: Walk> Run<N> {
         ensures spends { (a : Point) → RunReaches a (station_of N.tree self.old (seen_by W.Render out.old)) → Plain a.printer
             → SpendsAs (rule_of N.HAS_SUMMARIES limit) (left_of N.tree self.old) (left_of N.tree self.new) result }
         ensures pays { self.old.trials.open.items ≡ [] → unions_due (due_of N.tree self.old) ≡ 0
-            → PaysRun N.tree (rule_of N.HAS_SUMMARIES limit) (due_of N.tree self.old) self.new result }
+            → PaysRun N.tree (rule_of N.HAS_SUMMARIES limit) self.old self.new result }
         ensures summed { OnOk result (IsSummed N.HAS_SUMMARIES N.tree self.new.printer.commands) }
     {
         if self.trials.is_empty() {

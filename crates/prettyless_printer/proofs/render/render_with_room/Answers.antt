@@ -17,7 +17,8 @@ returns-in-Ok-clause-renders g c =
     subst (λ (v : Visits). Renders fails c.args.options (g.N.Walk.tree c.args.node) (see c.args.out.now) (see ran.new.out) v
     (record ran.new.self.visits { refused = ran.new.refused }) ran.result) before
     (begun_renders fails ran.new.refused ran.result c.in-Ok.ensures.begins ran.ensures.ends.1
-    (omega (arith, ran.ensures.rises, ap (λ (v : Visits). v.refused) before)) ran.ensures.few ran.ensures.pays)
+    (omega (arith, ran.ensures.rises, ap (λ (v : Visits). v.refused) before)) ran.ensures.few
+    (λ free. ran.ensures.pays free c.in-Ok.ensures.start))
 
 pub returns-in-Ok-clause-twice : goal.returns-in-Ok-clause-twice
 returns-in-Ok-clause-twice g c = λ linear small none.

@@ -5,7 +5,7 @@ use Rattle.prettyless_step.specs.Printing.{tasks_of}
 use Rattle.prettyless_printer.specs.Points.{point_of, seen_by, standing, state_at}
 use Rattle.prettyless_printer.specs.Visits.{Plain}
 use Rattle.prettyless_printer.specs.Spending.{Spends, left_alone, rule_of}
-use Rattle.prettyless_printer.specs.Due.{Pays, due_of, unions_due}
+use Rattle.prettyless_printer.specs.Due.{Pays, StaysClear, due_of, unions_due}
 use Rattle.prettyless_printer.specs.Paths.{Path, run_of}
 use Rattle.prettyless_printer.proofs.run.Run.run_commands.Given as goal
 
@@ -19,6 +19,7 @@ invariant-work g l =
       spends : Plain (standing f l.fn.self.printer) →
           Spends (rule_of g.N.Walk.HAS_SUMMARIES l.limit) (left_alone f l.fn.self) (left_alone f l.self);
       pays : unions_due (due_of f l.fn.self) ≡ 0 → Pays (rule_of g.N.Walk.HAS_SUMMARIES l.limit) (due_of f l.fn.self) (due_of f l.self);
+      clear : unions_due (due_of f l.fn.self) ≡ 0 → StaysClear l.fn.self l.self;
       summed : IsSummed g.N.Walk.HAS_SUMMARIES f l.self.printer.commands;
     }
 
