@@ -1,5 +1,5 @@
 -- What is due of a run without unions: one step, a turn, and runs in a row.
-use Rattle.std.proofs.Common.{◌≡◌, ℕ, ◌+◌, ◌≤◌, ◌<◌, List, [], ◌∷◌, ◌++◌, Bool, false, true, refl, ap, sym, ◌∙◌, arith, subst, drop, Result, IsErr, Ok, Err}
+use Rattle.std.proofs.Common.{◌≡◌, ℕ, ◌+◌, ◌≤◌, ◌<◌, List, [], ◌∷◌, refl, ap, sym, arith, subst, Result, IsErr, Ok, Err}
 use Rattle.prettyless_sink.specs.declared.visits.Visits.{Visits}
 use Rattle.prettyless_model.specs.declared.mode.Mode.{Mode}
 use Rattle.prettyless_model.specs.declared.mode.Mode.TheVariants.{Break}
@@ -13,19 +13,18 @@ use Rattle.prettyless_step.specs.Printing.{Descends, Shows}
 use Rattle.prettyless_step.specs.declared.printer.Printer.{Printer}
 use Rattle.prettyless_step.specs.declared.printer.StepResult.TheVariants.{Failed, Choice}
 use Rattle.prettyless_step.specs.declared.queue.Queue.{Queue}
-use Rattle.prettyless_step.proofs.Shown.{step_at, StepsTo, IsChoice}
+use Rattle.prettyless_step.proofs.Shown.{StepsTo, IsChoice}
 use Rattle.prettyless_step.proofs.Summaries.{step_has}
-use Rattle.prettyless_printer.specs.Points.{Standing, standing, state_at, Seen, Point, point}
+use Rattle.prettyless_printer.specs.Points.{Standing, standing, state_at, Seen, Point}
 use Rattle.prettyless_printer.specs.Spending.{Rule}
 use Rattle.prettyless_printer.specs.declared.run.Run.{Run}
 use Rattle.prettyless_printer.specs.Due.{Due, DueHasSummaries, Pays, PaysRun, due, due_of, nothing_due, task_visits, pending_visits}
-use Rattle.prettyless_printer.specs.Due.{task_unions, pending_unions, unions_due, visits_due}
+use Rattle.prettyless_printer.specs.Due.{task_unions, pending_unions, unions_due}
 use Rattle.prettyless_printer.specs.Suffixes.{most_visits}
 use Rattle.prettyless_printer.proofs.Standings.{Wrote, choice_there, descended, step_from, stuck_there}
 use Rattle.prettyless_printer.proofs.Forgetting.{PendingSame, pending_same}
 use Rattle.prettyless_printer.proofs.Spending.{StepVisits, TakesTask, capped_one, each_probe_one, have_append}
 use Rattle.prettyless_printer.proofs.Steps.{extra}
-use Rattle.prettyless_printer.proofs.Visits.{OneMore}
 use Rattle.prettyless_printer.proofs.DueSteps.{StepPays, nodes_visits, rejects_none, step_pays, task_visits-append, task_unions-append}
 
 -- ---- Runs in a row

@@ -226,8 +226,7 @@ returns-in-Failed-clause-pays g c = λ free.
 
 pub returns-in-Shift-clause-pays : goal.returns-in-Shift-clause-pays
 returns-in-Shift-clause-pays g c = λ free.
-    let before = c.work.invariant.pays free in
-    (
+    let before = c.work.invariant.pays free in (
       c.work.invariant.none,
       pays_then before ((rw c.in-Shift.is at c.in_ok-turn.ensures.pays) before.unions),
       λ start. (rw c.in-Shift.is at c.in_ok-turn.ensures.start) ∙ c.work.invariant.clear free start,
