@@ -30,6 +30,7 @@ module _ {A E : Type 0} {fails : E → Type 0} {o : RenderOptions} {d : Tree} {s
     probes = h.visited.probes;
     few = h.few;
     with_suffixes = h.with_suffixes;
+    few_with_suffixes = h.few_with_suffixes;
     laid = on_ok_weaker r (λ counted. counted.printer) h.at_least;
     asked = on_ok_weaker r (λ counted. counted.probes) h.at_least;
   }

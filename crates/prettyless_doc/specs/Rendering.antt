@@ -7,7 +7,7 @@ use Rattle.prettyless_model.specs.Layout.{layout}
 use Rattle.prettyless_model.specs.Tree.{Tree, size, probed}
 use Rattle.prettyless_model.specs.declared.options.RenderOptions.{RenderOptions}
 use Rattle.prettyless_printer.specs.Linear.{BoundedByTable, IsLinearBound, IsLinear}
-use Rattle.prettyless_printer.specs.Suffixes.{most_visits, unions}
+use Rattle.prettyless_printer.specs.Suffixes.{IsLinearButSuffixes, most_visits, unions}
 use Rattle.prettyless_printer.specs.Renders.{Rendered, RendersKnown}
 use Rattle.prettyless_sink.specs.Sink.{IfKnown}
 use Rattle.prettyless_sink.specs.declared.error.RenderError.{RenderError}
@@ -54,6 +54,9 @@ pub record CountsVisits {A E : Type 0} (o : RenderOptions) (d : Tree) (refused :
   -- Without unions the printer visits each node once at most, and once more, for each line suffix, the break before which that
   -- is laid: fewer than two visits for each node, whatever the answer.
   pub with_suffixes : unions d ≡ 0 → w.printer ≤ v.printer + most_visits d
+  -- Where a table bounds the probes of the document too, and none was refused memory, probes visit at most sixteen nodes for each
+  -- of these visits of the printer, and a thousand, whatever the answer.
+  pub few_with_suffixes : IsLinearButSuffixes d → refused ≡ 0 → IsLinearBound 16 1000 (most_visits d) v w
   -- `Ok`: the printer visits at least the nodes that the layout lays, up to the greatest count.
   pub laid : OnOk result (min (v.printer + laid_nodes o d) (2 ^ 64 - 1) ≤ w.printer)
   -- `Ok`: the probes visit at least one node for each probe that the layout needs, up to the greatest count.

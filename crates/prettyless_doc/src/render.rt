@@ -84,6 +84,11 @@ impl<'a, T: DocPtr<'a>> Doc<'a, T> {
     /// holds where no table was refused memory, which the other call counts, and where the printer's count stays below the
     /// greatest `u64`.
     ///
+    /// Take one with line suffixes and no union. Then the printer visits each node at most once, and once more, for each
+    /// line suffix, the break before which that is laid: fewer than two visits for each node. Where it has no choice by
+    /// column or nesting either, and its nodes and line suffixes together are fewer than 2^32 - 1, probes visit at most
+    /// sixteen nodes for each of these visits, and a thousand, on the same two conditions.
+    ///
     /// After `Ok` the printer has visited at least the nodes that the layout lays. Its probes have visited at least one
     /// node for each probe that the layout needs. Both hold up to the greatest `u64`. In this lower bound a rejected
     /// branch of a union counts nothing, and neither does the document of a line suffix. A branch that is kept counts.

@@ -25,6 +25,7 @@ pub mod RunSpending
 pub mod Forgetting
 pub mod DueSteps
 pub mod Paying
+pub mod DueQueues
 pub mod DueRounds
 pub mod ShiftSpending
 pub mod Courses

@@ -1,5 +1,5 @@
 -- What is due of a run without unions: one step, a turn, and runs in a row.
-use Rattle.std.proofs.Common.{◌≡◌, ℕ, ◌+◌, ◌≤◌, ◌<◌, List, [], ◌∷◌, ◌++◌, Bool, false, true, refl, ap, sym, ◌∙◌, arith, subst, drop, Result, IsErr, Ok, Err}
+use Rattle.std.proofs.Common.{◌≡◌, ℕ, ◌+◌, ◌≤◌, ◌<◌, List, [], ◌∷◌, refl, ap, sym, arith, subst, Result, IsErr, Ok, Err}
 use Rattle.prettyless_sink.specs.declared.visits.Visits.{Visits}
 use Rattle.prettyless_model.specs.declared.mode.Mode.{Mode}
 use Rattle.prettyless_model.specs.declared.mode.Mode.TheVariants.{Break}
@@ -13,19 +13,18 @@ use Rattle.prettyless_step.specs.Printing.{Descends, Shows}
 use Rattle.prettyless_step.specs.declared.printer.Printer.{Printer}
 use Rattle.prettyless_step.specs.declared.printer.StepResult.TheVariants.{Failed, Choice}
 use Rattle.prettyless_step.specs.declared.queue.Queue.{Queue}
-use Rattle.prettyless_step.proofs.Shown.{step_at, StepsTo, IsChoice}
+use Rattle.prettyless_step.proofs.Shown.{StepsTo, IsChoice}
 use Rattle.prettyless_step.proofs.Summaries.{step_has}
-use Rattle.prettyless_printer.specs.Points.{Standing, standing, state_at, Seen, Point, point}
+use Rattle.prettyless_printer.specs.Points.{Standing, standing, state_at, Seen, Point}
 use Rattle.prettyless_printer.specs.Spending.{Rule}
 use Rattle.prettyless_printer.specs.declared.run.Run.{Run}
-use Rattle.prettyless_printer.specs.Due.{Due, DueHasSummaries, Pays, PaysRun, due, nothing_due, task_visits, pending_visits}
-use Rattle.prettyless_printer.specs.Due.{task_unions, pending_unions, unions_due, visits_due}
+use Rattle.prettyless_printer.specs.Due.{Due, DueHasSummaries, Pays, PaysRun, due, due_of, nothing_due, task_visits, pending_visits}
+use Rattle.prettyless_printer.specs.Due.{task_unions, pending_unions, unions_due}
 use Rattle.prettyless_printer.specs.Suffixes.{most_visits}
 use Rattle.prettyless_printer.proofs.Standings.{Wrote, choice_there, descended, step_from, stuck_there}
 use Rattle.prettyless_printer.proofs.Forgetting.{PendingSame, pending_same}
 use Rattle.prettyless_printer.proofs.Spending.{StepVisits, TakesTask, capped_one, each_probe_one, have_append}
 use Rattle.prettyless_printer.proofs.Steps.{extra}
-use Rattle.prettyless_printer.proofs.Visits.{OneMore}
 use Rattle.prettyless_printer.proofs.DueSteps.{StepPays, nodes_visits, rejects_none, step_pays, task_visits-append, task_unions-append}
 
 -- ---- Runs in a row
@@ -230,16 +229,10 @@ pays_forgets f {r} {a} p q v same h =
 -- ---- Runs
 
 -- a run that ended in an error
-pub pays_error_as : {N A E : Type 0} {r : Rule} {a : Due} (f : N → Tree) (q : Run N) (result : Result A E) → IsErr result
-    → Pays r a (nothing_due q.visits) → PaysRun f r a q result
-pays_error_as f q (Ok x) e h = cc
-pays_error_as f q (Err x) e h = h
-
--- runs in a row, of which the second one may have ended in an error
-pub pays_then_as : {N A E : Type 0} {r : Rule} {a b : Due} (f : N → Tree) (q : Run N) (result : Result A E) → Pays r a b
-    → PaysRun f r b q result → PaysRun f r a q result
-pays_then_as f q (Ok x) h k = (k.0, pays_then h k.1)
-pays_then_as f q (Err e) h k = pays_then h k
+pub pays_error_as : {N A E : Type 0} {r : Rule} (f : N → Tree) (p q : Run N) (result : Result A E) → IsErr result
+    → Pays r (due_of f p) (nothing_due q.visits) → PaysRun f r p q result
+pays_error_as f p q (Ok x) e h = cc
+pays_error_as f p q (Err x) e h = h
 
 -- ---- The end
 

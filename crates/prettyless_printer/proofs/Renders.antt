@@ -20,7 +20,7 @@ use Rattle.prettyless_model.proofs.Levels.{end_fixed, layout_is}
 use Rattle.prettyless_probe.specs.Stack.{Task, make_task, nodes, tasks}
 use Rattle.prettyless_step.specs.Steps.{lay_all, pending_work}
 use Rattle.prettyless_printer.specs.Points.{Point, Seen, Standing, state_at}
-use Rattle.prettyless_printer.specs.Suffixes.{most_visits, unions}
+use Rattle.prettyless_printer.specs.Suffixes.{IsLinearButSuffixes, most_visits, unions}
 use Rattle.prettyless_printer.specs.Linear.{IsLinearBound, IsLinear}
 use Rattle.prettyless_printer.specs.Turns.{bytes_before}
 use Rattle.prettyless_printer.specs.Renders.{Finishing, FlushesEnd, Renders, RunsToEnd, rest_of, to_end, Stopped, Flushed, Rendered}
@@ -193,9 +193,10 @@ pub renders : {A E : Type 0} (fails : E → Type 0) (d : Tree) {a b : Point} (m 
     → a.printer.tasks ≡ make_task 0 Break d ∷ [] → state_at a.printer ≡ initial → RunsToEnd fails a b r →
     m ≤ n → (IsLinear d → n ≡ 0 → IsLinearBound 16 1000 (size d) a.visits b.visits) →
     (unions d ≡ 0 → b.visits.printer ≤ a.visits.printer + most_visits d) →
+    (IsLinearButSuffixes d → n ≡ 0 → IsLinearBound 16 1000 (most_visits d) a.visits b.visits) →
     Renders fails a.printer.options d a.sink b.sink (record { visits = a.visits; refused = m })
     (record { visits = b.visits; refused = n }) r
-renders fails d {a} {b} m n r e s h refused few with_suffixes = record {
+renders fails d {a} {b} m n r e s h refused few with_suffixes few_with_suffixes = record {
   same_lender = h.same_lender;
   bytes = λ is_known.
       let y = h.bytes is_known in (
@@ -208,5 +209,6 @@ renders fails d {a} {b} m n r e s h refused few with_suffixes = record {
   refused = refused;
   few = few;
   with_suffixes = with_suffixes;
+  few_with_suffixes = few_with_suffixes;
   at_least = visited_at_least d a.printer a.visits b.visits r e s h.at_least;
 }

@@ -11,7 +11,7 @@ use Rattle.prettyless_model.specs.declared.options.RenderOptions.{RenderOptions}
 use Rattle.prettyless_model.specs.Layout.{State, bytes_in, layout}
 use Rattle.prettyless_model.specs.Tree.{Tree, size}
 use Rattle.prettyless_probe.specs.Stack.{nodes}
-use Rattle.prettyless_probe.specs.Sums.{HaveSummaries}
+use Rattle.prettyless_probe.specs.Sums.{HaveSummaries, TreesHaveSummaries}
 use Rattle.prettyless_step.specs.declared.printer.Printer.{Printer}
 use Rattle.prettyless_table.specs.Shift.{IsShifted}
 use Rattle.prettyless_printer.specs.declared.buffer.Buffer.{Buffer}
@@ -21,8 +21,9 @@ use Rattle.prettyless_printer.specs.Visits.{suffix_depths}
 use Rattle.prettyless_printer.specs.Linear.{IsLinearBound, IsLinear, IsLinearStart}
 use Rattle.prettyless_printer.specs.Open.{Held, all_held, held_of, seconds}
 use Rattle.prettyless_printer.specs.Spending.{Left, Rule, Spends, left}
-use Rattle.prettyless_printer.specs.Suffixes.{most_visits, unions}
-use Rattle.prettyless_printer.specs.Due.{PaysToEnd, due, pending_unions, pending_visits, task_unions, task_visits, unions_due}
+use Rattle.prettyless_printer.specs.Suffixes.{IsLinearButSuffixes, most_visits, unions}
+use Rattle.prettyless_printer.specs.Due.{IsLinearDue, PaysToEnd, due, pending_unions, pending_visits, task_unions, task_visits, unions_due}
+use Rattle.prettyless_printer.specs.Due.{visits_due}
 use Rattle.prettyless_printer.specs.Runs.{RunReaches, Station, station_at, station_of}
 use Rattle.prettyless_printer.specs.Renders.{Begins, Renders, RunsToEnd}
 use Rattle.prettyless_printer.proofs.Renders.{renders}
@@ -89,29 +90,44 @@ pub begins_small : {o : RenderOptions} {d : Tree} {p : Standing} (most : ℕ) �
 begins_small {o} {d} {p} most begins small = omega (arith, ap nodes begins.tasks, small)
 
 -- what is due of it
-pub begins_pays : {o : RenderOptions} {d : Tree} {p : Standing} {v w : Visits} → Begins o d p
-    → (unions_due (due p v) ≡ 0 → PaysToEnd (due p v) w) → unions d ≡ 0 → w.printer ≤ v.printer + most_visits d
-begins_pays {o} {d} {p} {v} {w} begins pays free =
-    let none = ap (λ (u : State). pending_unions u.pending) begins.state in
-    let waits = ap (λ (u : State). pending_visits u.pending) begins.state in
-    omega (
-      arith,
-      (pays (omega (arith, ap task_unions begins.tasks, none, free))).printer,
-      ap task_visits begins.tasks,
-      waits,
-    )
+module _ {o : RenderOptions} {d : Tree} {p : Standing} (begins : Begins o d p) where
+  begins_due : (v : Visits) → visits_due (due p v) ≡ most_visits d
+  begins_due v = omega (arith, ap task_visits begins.tasks, ap (λ (u : State). pending_visits u.pending) begins.state)
+
+  begins_free : (v : Visits) → unions d ≡ 0 → unions_due (due p v) ≡ 0
+  begins_free v free = omega (arith, ap task_unions begins.tasks, ap (λ (u : State). pending_unions u.pending) begins.state, free)
+
+  begins_linear_due : (v : Visits) → IsLinearButSuffixes d → IsLinearDue (due p v)
+  begins_linear_due v linear = (
+    (
+      subst HaveSummaries (sym begins.tasks) (linear.have, tt),
+      subst (λ (u : State). TreesHaveSummaries u.pending) (sym begins.state) tt,
+    ),
+    omega (arith, begins_due v, linear.visits),
+  )
+
+  pub begins_pays : {v w : Visits} {n : ℕ} → (unions_due (due p v) ≡ 0 → PaysToEnd (due p v) n w) → unions d ≡ 0
+      → w.printer ≤ v.printer + most_visits d
+  begins_pays {v} pays free = omega (arith, (pays (begins_free v free)).printer, begins_due v)
+
+  pub begins_few_due : {v w : Visits} {n : ℕ} → (unions_due (due p v) ≡ 0 → PaysToEnd (due p v) n w) → IsLinearButSuffixes d → n ≡ 0
+      → IsLinearBound 16 1000 (most_visits d) v w
+  begins_few_due {v} {w} pays linear none =
+      subst (λ (k : ℕ). IsLinearBound 16 1000 k v w) (begins_due v)
+      ((pays (begins_free v linear.unions)).few (begins_linear_due v linear) none)
 
 -- a run to the end, from before a document, is a render
 pub begun_renders : {A E : Type 0} (fails : E → Type 0) {o : RenderOptions} {d : Tree} {a b : Point} (m n : ℕ)
     (r : Result A (RenderError E)) → Begins o d a.printer → RunsToEnd fails a b r →
     m ≤ n → (IsLinearStart a.printer → n ≡ 0 → IsLinearBound 16 1000 (nodes a.printer.tasks) a.visits b.visits) →
-    (unions_due (due a.printer a.visits) ≡ 0 → PaysToEnd (due a.printer a.visits) b.visits) →
+    (unions_due (due a.printer a.visits) ≡ 0 → PaysToEnd (due a.printer a.visits) n b.visits) →
     Renders fails o d a.sink b.sink (record { visits = a.visits; refused = m }) (record { visits = b.visits; refused = n }) r
 begun_renders fails {o} {d} {a} {b} m n r begins ran refused few pays =
     subst (λ (x : RenderOptions). Renders fails x d a.sink b.sink (record { visits = a.visits; refused = m })
     (record { visits = b.visits; refused = n }) r) begins.options
     (renders fails d m n r begins.tasks begins.state ran refused
-    (λ linear none. begins_few 16 1000 a.visits b.visits begins (few (begins_linear begins linear) none)) (begins_pays begins pays))
+    (λ linear none. begins_few 16 1000 a.visits b.visits begins (few (begins_linear begins linear) none)) (begins_pays begins pays)
+    (begins_few_due begins pays))
 
 -- a render that is refused memory before its first node
 pub refused_renders : {A E : Type 0} (fails : E → Type 0) (o : RenderOptions) (d : Tree) (s : Seen) (v : RenderCost) (e : AllocError)
@@ -124,5 +140,6 @@ refused_renders fails o d s v e = record {
   refused = omega arith;
   few = λ linear none room. omega arith;
   with_suffixes = λ free. omega arith;
+  few_with_suffixes = λ linear none room. omega arith;
   at_least = tt;
 }

@@ -4,10 +4,12 @@
 use Rattle.std.specs.Prelude.{◌≡◌, ℕ, ◌+◌, ◌-◌, ◌^◌, ◌≤◌, ◌<◌, IsTrue, true, List, [], ◌∷◌, Result, Ok, Err}
 use Rattle.prettyless_sink.specs.declared.visits.Visits.{Visits}
 use Rattle.prettyless_model.specs.Tree.{Tree}
+use Rattle.prettyless_model.specs.Layout.{some_pending}
 use Rattle.prettyless_probe.specs.Stack.{Task}
 use Rattle.prettyless_probe.specs.Sums.{HaveSummaries, TreesHaveSummaries}
 use Rattle.prettyless_printer.specs.Points.{Standing, standing, state_at}
 use Rattle.prettyless_printer.specs.Spending.{Capped, Rule, TwoEach, rule_of}
+use Rattle.prettyless_printer.specs.Linear.{IsLinearBound}
 use Rattle.prettyless_printer.specs.Suffixes.{most_visits, unions}
 use Rattle.prettyless_printer.specs.declared.run.Run.{Run}
 use Rattle.prettyless_printer.specs.declared.answer.TurnResult.{TurnResult}
@@ -84,16 +86,34 @@ PaysTurn r a q w (Ok Failed) = Pays r a (due q w)
 PaysTurn r a q w (Ok (Choice c)) = ⊥
 PaysTurn r a q w (Err e) = Pays r a (nothing_due w)
 
+-- no line suffix that was laid is left in the queue, if none was
+abbrev pub StaysClear : {N : Type 0} → Run N → Run N → Type 0
+StaysClear p q = p.printer.queue.start ≡ 0 → q.printer.queue.start ≡ 0
+
 -- what a run leaves without unions: no trial is open, and after an error nothing is due
-abbrev pub PaysRun : {N A E : Type 0} → (N → Tree) → Rule → Due → Run N → Result A E → Type 0
-PaysRun f r a q (Ok x) = (q.trials.open.items ≡ []) × Pays r a (due_of f q)
-PaysRun f r a q (Err e) = Pays r a (nothing_due q.visits)
+abbrev pub PaysRun : {N A E : Type 0} → (N → Tree) → Rule → Run N → Run N → Result A E → Type 0
+PaysRun f r p q (Ok x) = (q.trials.open.items ≡ []) × Pays r (due_of f p) (due_of f q) × StaysClear p q
+PaysRun f r p q (Err e) = Pays r (due_of f p) (nothing_due q.visits)
+
+-- the start of the queue after a turn: it stays where a line suffix is pending, and where the turn stopped
+abbrev pub StartStaysBy : {N E : Type 0} → Standing → Standing → Result (TurnResult N) E → Type 0
+StartStaysBy p q (Ok Complete) = some_pending (state_at q).pending ≡ true → q.start ≡ p.start
+StartStaysBy p q (Ok Shift) = q.start ≡ p.start
+StartStaysBy p q (Ok Failed) = Unit {0}
+StartStaysBy p q (Ok (Choice c)) = Unit {0}
+StartStaysBy p q (Err e) = Unit {0}
 
 -- a run of which no trial was open has gone on over a table to its end
 abbrev pub PaysOverTable : {N : Type 0} → (N → Tree) → Run N → Visits → Type 0
 PaysOverTable f p w =
     p.trials.open.items ≡ [] → unions_due (due_of f p) ≡ 0 → Pays (rule_of true (2 ^ 64 - 1)) (due_of f p) (nothing_due w)
 
--- A run without unions to the end, of which this was due.
-pub record PaysToEnd (a : Due) (w : Visits) : Type 0 where
+-- what is due has summaries, and no more visits than a table can have nodes
+abbrev pub IsLinearDue : Due → Type 0
+IsLinearDue a = DueHasSummaries a × (visits_due a ≤ 4294967294)
+
+-- A run without unions to the end, of which this was due; so often tables were refused memory.
+pub record PaysToEnd (a : Due) (refused : ℕ) (w : Visits) : Type 0 where
   pub printer : w.printer ≤ a.visits.printer + visits_due a
+  -- where a table bounds the probes, they visit at most sixteen nodes for each visit of the printer that was due, and a thousand
+  pub few : IsLinearDue a → refused ≡ 0 → IsLinearBound 16 1000 (visits_due a) a.visits w

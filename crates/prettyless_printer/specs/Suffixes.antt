@@ -3,6 +3,7 @@
 use Rattle.std.specs.Prelude.{◌≡◌, ℕ, ◌+◌, ◌≤◌}
 use Rattle.prettyless_model.specs.Tree.{Tree, Append, LineSuffix, Indented, Flatten, BreakOrFlat, Group, Union, PartialUnion, Chosen, size}
 use Rattle.prettyless_model.specs.Levels.{suffixes}
+use Rattle.prettyless_summary.specs.Summary.{HasSummaries}
 
 -- how many unions a tree has; a partial union is none
 abbrev pub unions : Tree → ℕ
@@ -20,3 +21,12 @@ unions _ = 0
 -- how many visits of the printer a document without unions takes at most, which are fewer than two for each node
 abbrev pub most_visits : Tree → ℕ
 most_visits d = size d + suffixes d
+
+-- A document whose probes a table bounds, though it has line suffixes.
+pub record IsLinearButSuffixes (d : Tree) : Type 0 where
+  -- it has no union
+  pub unions : unions d ≡ 0
+  -- it has no choice by column or nesting
+  pub have : HasSummaries d
+  -- a table can have a node for each visit of the printer
+  pub visits : most_visits d ≤ 4294967294

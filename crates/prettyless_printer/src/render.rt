@@ -32,6 +32,7 @@ fn run_before<N: Walk>(
     ensures begins { IfOk result (λ r. Begins options (N.tree node) (standing N.tree r.printer)) }
     ensures none { IfOk result (λ r. r.trials.open.items ≡ []) }
     ensures visits { IfOk result (λ r. r.visits ≡ visits) }
+    ensures start { IfOk result (λ r. r.printer.queue.start ≡ 0) }
     ensures summed { IfOk result (λ r. IsSummed N.HAS_SUMMARIES N.tree r.printer.commands) }
 {
     let mut run = Run {
@@ -94,6 +95,8 @@ fn render_with_room<N: Walk, W: Render>(
 /// rejected branch counts nothing here. Without line suffixes the printer visits at most as many nodes as the document has, and
 /// its probes together at most that many for each node that needs one. Where the document is linear too (`IsLinear`) and no table
 /// was refused memory, probes visit at most sixteen nodes for each node of the document, and a thousand.
+/// With line suffixes and without unions the printer visits at most a node more for each line suffix, and probes at most sixteen for each
+/// of these, and a thousand, where the document is linear but for its line suffixes (`IsLinearButSuffixes`).
 pub fn render<N: Walk, W: Render>(
     alloc: Global,
     node: N,

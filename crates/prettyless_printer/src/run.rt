@@ -43,7 +43,8 @@ pub struct Run<N> {
     pub visits: Visits,
 }
 
-// At the end the pending line suffixes become the commands, and the line's gap is written, as before content.
+// At the end the pending line suffixes become the commands, and the line's gap is written, as before content. No trial goes back past
+// that, so the queue forgets them.
 fn flush_end<N: Walk, W: Render>(
     printer: &mut Printer<N>,
     out: &mut W,
@@ -54,13 +55,17 @@ fn flush_end<N: Walk, W: Render>(
         (seen_by W.Render out.old) (seen_by W.Render out.new) result }
     ensures none { NoneFails result }
     ensures summed { OnOk result (IsSummed N.HAS_SUMMARIES N.tree printer.new.commands) }
+    ensures start { OnOk result (printer.new.queue.start ≡ 0) }
 {
     match take_pending(printer, 0, Mode::Break) {
         Err(e) => Err(RenderError::Memory(e)),
-        Ok(gap) => match write_gap_and_text(out, gap, "") {
-            Ok(()) => Ok(()),
-            Err(e) => Err(RenderError::Sink(e)),
-        },
+        Ok(gap) => {
+            printer.queue.forget_laid();
+            match write_gap_and_text(out, gap, "") {
+                Ok(()) => Ok(()),
+                Err(e) => Err(RenderError::Sink(e)),
+            }
+        }
     }
 }
 
@@ -141,7 +146,7 @@ impl<N: Walk> Run<N> {
             (place_at (standing N.tree self.old.printer) self.old.visits.probes (around [] N.HAS_SUMMARIES refused))
             N.HAS_SUMMARIES refused (station_of N.tree self.new (seen_by W.Render out.new)) result }
         ensures pays { unions_due (due_of N.tree self.old) ≡ 0
-            → PaysRun N.tree (rule_of N.HAS_SUMMARIES limit) (due_of N.tree self.old) self.new result }
+            → PaysRun N.tree (rule_of N.HAS_SUMMARIES limit) self.old self.new result }
         ensures summed { OnOk result (IsSummed N.HAS_SUMMARIES N.tree self.new.printer.commands) }
     {
         'work: while self.printer.commands.len() > 0 {
@@ -175,7 +180,7 @@ impl<N: Walk> Run<N> {
             (place_at (standing N.tree self.old.printer) self.old.visits.probes (around [] N.HAS_SUMMARIES refused))
             N.HAS_SUMMARIES refused (station_of N.tree self.new (seen_by W.Render out.new)) result }
         ensures pays { unions_due (due_of N.tree self.old) ≡ 0
-            → PaysRun N.tree (rule_of N.HAS_SUMMARIES limit) (due_of N.tree self.old) self.new result }
+            → PaysRun N.tree (rule_of N.HAS_SUMMARIES limit) self.old self.new result }
         ensures summed { OnOk result (IsSummed N.HAS_SUMMARIES N.tree self.new.printer.commands) }
     {
         'rounds: loop {
@@ -210,7 +215,7 @@ impl<N: Walk> Run<N> {
             (place_at (standing N.tree self.old.printer) self.old.visits.probes (around ws N.HAS_SUMMARIES refused))
             N.HAS_SUMMARIES refused (station_of N.tree self.new (seen_by W.Render out.new)) result }
         ensures pays { self.old.trials.open.items ≡ [] → unions_due (due_of N.tree self.old) ≡ 0
-            → PaysRun N.tree (rule_of N.HAS_SUMMARIES limit) (due_of N.tree self.old) self.new result }
+            → PaysRun N.tree (rule_of N.HAS_SUMMARIES limit) self.old self.new result }
         ensures summed { OnOk result (IsSummed N.HAS_SUMMARIES N.tree self.new.printer.commands) }
     {
         if self.trials.is_empty() {

@@ -198,7 +198,8 @@ impl<N: Walk> Run<N> {
         ensures twice { IsLinearStart (standing N.tree self.old.printer) → refused.new ≡ 0 → 0 < room_at_first
             → nodes (tasks_of N.tree self.old.printer) ≤ room_at_first
             → IsLinearBound 2 0 (nodes (tasks_of N.tree self.old.printer)) self.old.visits self.new.visits }
-        ensures pays { unions_due (due_of N.tree self.old) ≡ 0 → PaysToEnd (due_of N.tree self.old) self.new.visits }
+        ensures pays { unions_due (due_of N.tree self.old) ≡ 0 → self.old.printer.queue.start ≡ 0
+            → PaysToEnd (due_of N.tree self.old) refused.new self.new.visits }
     {
         let mut policy = ShiftPolicy::new(self.visits);
         let mut room = room_at_first;

@@ -8,7 +8,7 @@ ghost use Rattle.prettyless_printer.specs.Course.{Around};
 ghost use Rattle.prettyless_printer.specs.CourseOf.{GoesOn, TurnCourse, place_at};
 ghost use Rattle.prettyless_printer.specs.Visits.{Plain, visited_more};
 ghost use Rattle.prettyless_printer.specs.Spending.{Spends, after_turn, left, rule_of};
-ghost use Rattle.prettyless_printer.specs.Due.{PaysTurn, due, unions_due};
+ghost use Rattle.prettyless_printer.specs.Due.{PaysTurn, StartStaysBy, due, unions_due};
 ghost use Rattle.prettyless_printer.specs.Turns.{Advances, StopsPast};
 
 use crate::answer::{Choice, TurnResult};
@@ -62,6 +62,7 @@ pub fn turn<N: Walk, W: Render>(
     ensures pays { unions_due (due (standing N.tree printer.old) visits.old) ≡ 0 → PaysTurn
         (rule_of N.HAS_SUMMARIES limit)
         (due (standing N.tree printer.old) visits.old) (standing N.tree printer.new) visits.new result }
+    ensures start { StartStaysBy (standing N.tree printer.old) (standing N.tree printer.new) result }
     ensures summed { OnOk result (IsSummed N.HAS_SUMMARIES N.tree printer.new.commands) }
 {
     let Some(command) = printer.commands.pop() else {

@@ -18,7 +18,8 @@ returns-in-Ok-clause-renders g c =
     (record { visits = v; refused = c.args.cost.now.refused })
     (record { visits = ran.new.self.visits; refused = ran.new.refused }) ran.result) before
     (begun_renders fails c.args.cost.now.refused ran.new.refused ran.result c.in-Ok.ensures.begins ran.ensures.ends.1
-    ran.ensures.rises ran.ensures.few ran.ensures.pays)
+    ran.ensures.rises ran.ensures.few
+    (λ free. ran.ensures.pays free c.in-Ok.ensures.start))
 
 pub returns-in-Ok-clause-twice : goal.returns-in-Ok-clause-twice
 returns-in-Ok-clause-twice g c = λ linear small none.

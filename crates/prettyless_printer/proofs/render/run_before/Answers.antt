@@ -2,6 +2,7 @@ use Rattle.std.proofs.Common.{◌≡◌, ◌∷◌, [], ◌∙◌, true, ap, ari
 use Rattle.std.proofs.lemmas.List.{drop_all}
 use Rattle.prettyless_model.specs.declared.mode.Mode.TheVariants.{Break}
 use Rattle.prettyless_probe.specs.Stack.{make_task, trees}
+use Rattle.prettyless_printer.proofs.DueQueues.{empty_start}
 use Rattle.prettyless_printer.proofs.render.run_before.Goals as goal
 
 pub returns-clause-begins : goal.returns-clause-begins
@@ -16,3 +17,6 @@ returns-clause-begins g c =
       state = λ j. record { column = c.start.ensures j; pending = n j; within = true };
       queue = ap (trees f) c.new-4.ensures;
     }
+
+pub returns-clause-start : goal.returns-clause-start
+returns-clause-start g c = empty_start c.new-4.result c.new-4.ensures

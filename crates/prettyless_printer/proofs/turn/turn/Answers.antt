@@ -17,10 +17,11 @@ use Rattle.prettyless_printer.proofs.Courses.{course_laid, course_wrote, refused
 use Rattle.prettyless_printer.specs.CourseOf.{after_texts}
 use Rattle.prettyless_model.specs.declared.options.RenderOptions.{RenderOptions}
 use Rattle.prettyless_printer.proofs.Descends.{goes_down, in_hand, shown, visit}
-use Rattle.prettyless_printer.proofs.Standings.{choice_there, descended, step_from, stuck_there, wrote}
+use Rattle.prettyless_printer.proofs.Standings.{choice_there, descended, step_from, stuck_there, wrote, pending_stands}
 use Rattle.prettyless_printer.proofs.Visits.{visited_more-zero}
 use Rattle.prettyless_printer.proofs.Spending.{spends_all, spends_begun, spends_error, spends_choice, spends_down, spends_failed}
 use Rattle.prettyless_printer.proofs.Spending.{spends_moved, takes}
+use Rattle.prettyless_printer.proofs.DueQueues.{start_down}
 use Rattle.prettyless_printer.proofs.Paying.{pays_all, pays_begun, pays_choice, pays_down, pays_error, pays_failed, pays_laid, pays_moved}
 use Rattle.prettyless_printer.proofs.Laying.{laying_begins, spends_laid}
 use Rattle.prettyless_printer.proofs.Advancing.{advances_choice, advances_failed, advances_refused, advances_sink_failed, advances_moved}
@@ -50,6 +51,7 @@ down-init g c =
       pays = λ free. rw none
           (pays_begun _ (standing f p) (standing f (record p { commands = c.pop.new.self })) (task f c.in-Some.command) v
           c.in-Some.ensures.popped refl free);
+      start = refl;
     }
 
 pub down-preserved-in-Ok-Descend : goal.down-preserved-in-Ok-Descend
@@ -86,6 +88,10 @@ down-preserved-in-Ok-Descend g c =
           c.in-Ok-Descend.next (shown f c.down.printer q c.in-Ok-Descend.field-0
           (step_result.Descend c.in-Ok-Descend.next_indent c.in-Ok-Descend.next) hand
           c.in-Ok-Descend.field-0-is c.in-Ok-Descend.ensures.step);
+      start = start_down f c.down.printer q c.in-Ok-Descend.next_indent c.down.mode c.in-Ok-Descend.next _ c.in-Ok-Descend.ensures.start
+          (shown f c.down.printer q c.in-Ok-Descend.field-0
+          (step_result.Descend c.in-Ok-Descend.next_indent c.in-Ok-Descend.next) hand
+          c.in-Ok-Descend.field-0-is c.in-Ok-Descend.ensures.step) ∙ c.down.invariant.start;
     }
 
 pub down-preserved : goal.down-preserved
@@ -123,6 +129,10 @@ down-preserved g c =
           c.in-Ok-DescendFlat.next (shown f c.down.printer q c.in-Ok-DescendFlat.field-0
           (step_result.DescendFlat c.in-Ok-DescendFlat.next_indent c.in-Ok-DescendFlat.next) hand c.in-Ok-DescendFlat.field-0-is
           c.in-Ok-DescendFlat.ensures.step);
+      start = start_down f c.down.printer q c.in-Ok-DescendFlat.next_indent Flat c.in-Ok-DescendFlat.next _ c.in-Ok-DescendFlat.ensures.start
+          (shown f c.down.printer q c.in-Ok-DescendFlat.field-0
+          (step_result.DescendFlat c.in-Ok-DescendFlat.next_indent c.in-Ok-DescendFlat.next) hand c.in-Ok-DescendFlat.field-0-is
+          c.in-Ok-DescendFlat.ensures.step) ∙ c.down.invariant.start;
     }
 
 pub returns-in-Ok-lay_texts-clause-advances : goal.returns-in-Ok-lay_texts-clause-advances
@@ -774,3 +784,25 @@ returns-in-Err-write_piece-clause-pays g c =
     c.down.invariant.spends in
     rw c.count_more-in-Ok-Emit.ensures.more
     (λ free. pays_error f c.down.printer took _ (c.down.invariant.pays free))
+
+-- ---- The start of the queue
+
+pub returns-in-Ok-lay_texts-clause-start : goal.returns-in-Ok-lay_texts-clause-start
+returns-in-Ok-lay_texts-clause-start g c = λ some.
+    let f = g.N.Walk.tree in
+    let q = c.step.new.printer in
+    let i = c.in-Ok-DescendTexts.field-0-0 in
+    let n = c.in-Ok-DescendTexts.next in
+    ap (λ (z : Queue g.row.N.Denot). z.start) c.lay_texts.ensures.queue
+    ∙ ap (λ (z : Printer g.row.N.Denot). z.queue.start) c.make_room.ensures.others
+    ∙ start_down f c.down.printer q i Flat n _ c.in-Ok-DescendTexts.ensures.start
+    (shown f c.down.printer q c.in-Ok-DescendTexts.field-0 (step_result.DescendTexts i n) c.down.invariant.hand
+    c.in-Ok-DescendTexts.field-0-is c.in-Ok-DescendTexts.ensures.step).0 ∙ c.down.invariant.start
+
+pub returns-in-Ok-Silent-clause-start : goal.returns-in-Ok-Silent-clause-start
+returns-in-Ok-Silent-clause-start g c = λ some.
+    c.in-Ok-Silent.ensures.start.1 (pending_stands g.N.Walk.tree c.step.new.printer ∙ some) ∙ c.down.invariant.start
+
+pub returns-in-Ok-write_piece-clause-start : goal.returns-in-Ok-write_piece-clause-start
+returns-in-Ok-write_piece-clause-start g c = λ some.
+    c.in-Ok-Emit.ensures.start.1 (pending_stands g.N.Walk.tree c.step.new.printer ∙ some) ∙ c.down.invariant.start

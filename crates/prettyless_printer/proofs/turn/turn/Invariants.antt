@@ -33,6 +33,7 @@ invariant-down g l =
       pays : unions_due (due (standing f l.fn.printer) l.fn.visits) ≡ 0 → Pays (rule_of g.N.Walk.HAS_SUMMARIES l.limit)
           (due (standing f l.fn.printer) l.fn.visits)
           (due_with (make_task l.indent l.mode (f l.node)) (standing f l.printer) (visited_more l.count l.visits));
+      start : l.printer.queue.start ≡ l.fn.printer.queue.start;
     }
 
 abbrev pub decreases-down : goal.decreases-down

@@ -20,6 +20,7 @@ use Rattle.prettyless_printer.proofs.Spending.{spends_all, spends_same}
 use Rattle.prettyless_printer.proofs.OpenSpending.{spends_error_as}
 use Rattle.prettyless_printer.proofs.Forgetting.{path_forgets, spends_forgets, work_forgets}
 use Rattle.prettyless_printer.proofs.RunSpending.{none_seconds, path_spends, seconds_none, waiting_spends}
+use Rattle.prettyless_printer.proofs.DueQueues.{turn_clear}
 use Rattle.prettyless_printer.proofs.Paying.{pays_all, pays_error_as, pays_forgets, pays_same, pays_then}
 use Rattle.prettyless_printer.proofs.run.Run.run_commands.Goals as goal
 
@@ -30,6 +31,7 @@ work-init g c = record {
   spends = λ plain. spends_same _ _;
   course = λ refused. come_same _ _;
   pays = λ free. pays_same _ _ free;
+  clear = λ free start. start;
   summed = c.requires.summed;
 }
 
@@ -70,6 +72,9 @@ work-preserved-in-Complete g c =
           let before = c.work.invariant.pays free in
           pays_forgets f c.turn.new.printer c.forget_laid.new.self visits c.forget_laid.ensures.pending
           (pays_then before ((rw c.in-Complete.is at c.in_ok-turn.ensures.pays) before.unions));
+      clear = λ free start. turn_clear f c.turn.new.printer c.forget_laid.new.self c.work.self.printer.queue.start
+          (rw c.in-Complete.is at c.in_ok-turn.ensures.start) (c.work.invariant.clear free start) c.forget_laid.ensures.start
+          c.forget_laid.ensures.forgotten;
       none = c.work.invariant.none;
       course = λ refused. course_forgets f c.turn.new.printer c.forget_laid.new.self c.forget_laid.ensures.pending
           (come_then (c.work.invariant.course refused)
@@ -98,6 +103,7 @@ work-preserved g c =
           (path_spends c.work.invariant.path plain (c.work.invariant.spends plain) (rw c.in-Choice.is at c.in_ok-turn.ensures.spends))
           c.in_ok-choose-in-Choice.ensures.spends));
       pays = λ free. absurd ((rw c.in-Choice.is at c.in_ok-turn.ensures.pays) (c.work.invariant.pays free).unions);
+      clear = λ free. absurd ((rw c.in-Choice.is at c.in_ok-turn.ensures.pays) (c.work.invariant.pays free).unions);
       none = none_open f q.trials.open.items settled.0;
       course = λ refused.
           let same = turned.options ∙ c.work.invariant.path.options in
@@ -288,7 +294,7 @@ returns-in_err-turn-clause-pays g c = λ free.
     let f = g.N.Walk.tree in
     let next = record c.work.self { printer = c.turn.new.printer; visits = c.turn.new.visits } in
     let before = c.work.invariant.pays free in
-    pays_error_as f next c.from_residual.result c.from_residual.ensures.0
+    pays_error_as f c.args.self.now next c.from_residual.result c.from_residual.ensures.0
     (pays_then before (c.in_err-turn.ensures.pays before.unions))
 
 pub returns-in-Failed-clause-pays : goal.returns-in-Failed-clause-pays
@@ -298,8 +304,11 @@ returns-in-Failed-clause-pays g c = λ free.
 
 pub returns-in-Shift-clause-pays : goal.returns-in-Shift-clause-pays
 returns-in-Shift-clause-pays g c = λ free.
-    let before = c.work.invariant.pays free in
-    (c.work.invariant.none, pays_then before ((rw c.in-Shift.is at c.in_ok-turn.ensures.pays) before.unions))
+    let before = c.work.invariant.pays free in (
+      c.work.invariant.none,
+      pays_then before ((rw c.in-Shift.is at c.in_ok-turn.ensures.pays) before.unions),
+      λ start. (rw c.in-Shift.is at c.in_ok-turn.ensures.start) ∙ c.work.invariant.clear free start,
+    )
 
 pub returns-in_err-choose-in-Choice-clause-pays : goal.returns-in_err-choose-in-Choice-clause-pays
 returns-in_err-choose-in-Choice-clause-pays g c = λ free.
@@ -310,4 +319,4 @@ returns-in-Shift-2-clause-pays g c = λ free.
     absurd ((rw c.in-Choice.is at c.in_ok-turn.ensures.pays) (c.work.invariant.pays free).unions)
 
 pub returns-clause-pays : goal.returns-clause-pays
-returns-clause-pays g c = λ free. (c.work.invariant.none, c.work.invariant.pays free)
+returns-clause-pays g c = λ free. (c.work.invariant.none, c.work.invariant.pays free, c.work.invariant.clear free)

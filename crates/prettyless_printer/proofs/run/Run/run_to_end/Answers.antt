@@ -24,6 +24,7 @@ rounds-init g c = record {
   spends = λ plain. spends_same _ _;
   course = λ refused. come_same _ _;
   pays = λ free. pays_same _ _ free;
+  clear = λ free start. start;
   summed = c.requires.summed;
 }
 
@@ -95,6 +96,7 @@ rounds-preserved g c =
           pays_flushed (standing f p) (standing f c.flush_end.new.printer) c.run_commands.new.self.visits
           ((rw c.in-Finished.is at c.in_ok-run_commands.ensures.works).1).done flushes.stack flushes.state
           (pays_then before (c.in_ok-run_commands.ensures.pays before.unions).1);
+      clear = λ free start. c.in_ok-flush_end-in-Finished.ensures.start;
       summed = c.in_ok-flush_end-in-Finished.ensures.summed;
     }
 
@@ -183,25 +185,25 @@ returns-in_err-flush_end-in-Finished-clause-course g c =
 pub returns-in_err-run_commands-clause-pays : goal.returns-in_err-run_commands-clause-pays
 returns-in_err-run_commands-clause-pays g c = λ free.
     let before = c.rounds.invariant.pays free in
-    pays_error_as g.N.Walk.tree c.run_commands.new.self c.from_residual.result c.from_residual.ensures.0
+    pays_error_as g.N.Walk.tree c.args.self.now c.run_commands.new.self c.from_residual.result c.from_residual.ensures.0
     (pays_then before (c.in_err-run_commands.ensures.pays before.unions))
 
 pub returns-in-Shift-clause-pays : goal.returns-in-Shift-clause-pays
 returns-in-Shift-clause-pays g c = λ free.
     let before = c.rounds.invariant.pays free in
     let after = c.in_ok-run_commands.ensures.pays before.unions in
-    (after.0, pays_then before after.1)
+    (after.0, pays_then before after.1, λ start. after.2 (c.rounds.invariant.clear free start))
 
 pub returns-then-not-is_pending-clause-pays : goal.returns-then-not-is_pending-clause-pays
 returns-then-not-is_pending-clause-pays g c = λ free.
     let before = c.rounds.invariant.pays free in
     let after = c.in_ok-run_commands.ensures.pays before.unions in
-    (after.0, pays_then before after.1)
+    (after.0, pays_then before after.1, λ start. after.2 (c.rounds.invariant.clear free start))
 
 pub returns-in_err-flush_end-in-Finished-clause-pays : goal.returns-in_err-flush_end-in-Finished-clause-pays
 returns-in_err-flush_end-in-Finished-clause-pays g c = λ free.
     let before = c.rounds.invariant.pays free in
-    pays_error_as g.N.Walk.tree (record c.run_commands.new.self { printer = c.flush_end.new.printer })
+    pays_error_as g.N.Walk.tree c.args.self.now (record c.run_commands.new.self { printer = c.flush_end.new.printer })
     c.from_residual-in_err-flush_end-in-Finished.result
     c.from_residual-in_err-flush_end-in-Finished.ensures.0
     (pays_all (pays_then before (c.in_ok-run_commands.ensures.pays before.unions).1))

@@ -7,7 +7,7 @@ use Rattle.prettyless_printer.specs.Visits.{Plain}
 use Rattle.prettyless_printer.specs.Spending.{Spends, left_alone, rule_of}
 use Rattle.prettyless_printer.specs.Course.{Comes}
 use Rattle.prettyless_printer.specs.CourseOf.{around, place_at}
-use Rattle.prettyless_printer.specs.Due.{Pays, due_of, unions_due}
+use Rattle.prettyless_printer.specs.Due.{Pays, due_of, unions_due, StaysClear}
 use Rattle.prettyless_printer.specs.Renders.{Continues}
 use Rattle.prettyless_printer.proofs.run.Run.run_to_end.Given as goal
 
@@ -24,6 +24,7 @@ invariant-rounds g l =
           (place_at (standing f l.fn.self.printer) l.fn.self.visits.probes (around [] g.N.Walk.HAS_SUMMARIES refused))
           (place_at (standing f l.self.printer) l.self.visits.probes (around [] g.N.Walk.HAS_SUMMARIES refused));
       pays : unions_due (due_of f l.fn.self) ≡ 0 → Pays (rule_of g.N.Walk.HAS_SUMMARIES l.limit) (due_of f l.fn.self) (due_of f l.self);
+      clear : unions_due (due_of f l.fn.self) ≡ 0 → StaysClear l.fn.self l.self;
       summed : IsSummed g.N.Walk.HAS_SUMMARIES f l.self.printer.commands;
     }
 

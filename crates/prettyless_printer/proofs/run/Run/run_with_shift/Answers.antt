@@ -18,7 +18,8 @@ use Rattle.prettyless_printer.proofs.Shifted.{comes_first, comes_still}
 use Rattle.prettyless_printer.proofs.ShiftSpending.{all_over, always_room, goes_on_without, next_within}
 use Rattle.prettyless_printer.proofs.ShiftSpending.{within_few, within_over, within_start}
 use Rattle.prettyless_printer.proofs.RunSpending.{from_none}
-use Rattle.prettyless_printer.proofs.DueRounds.{round_begins, round_done, round_ends, round_goes, round_still}
+use Rattle.prettyless_printer.proofs.DueRounds.{DueNoTable, round_begins, round_done, round_over, round_stops, still_none, still_unions}
+use Rattle.prettyless_printer.specs.Due.{due_of, nothing_due}
 use Rattle.prettyless_printer.proofs.run.Run.run_with_shift.Goals as goal
 
 pub rounds-init : goal.rounds-init
@@ -39,7 +40,7 @@ rounds-init g c =
         start = start;
       };
       first = λ linear none some small. (refl, refl);
-      pays = λ free. round_begins f old c.requires.none free;
+      pays = λ free clear. round_begins f old _ _ _ c.requires.none clear free first;
       summed = c.requires.summed;
     }
 
@@ -190,9 +191,13 @@ rounds-preserved g c =
           absurd (always_room (c.rounds.invariant.round linear old)
           (record { size = linear.size; large = λ room. c.in_default.ensures.large room none })
           (c.rounds.invariant.first linear old some small).0 some small);
-      pays = λ free.
-          let before = round_still c.in_default.ensures.none.1 (c.rounds.invariant.pays free) in
-          round_goes {s = c.resume.new.self} before (c.in_ok-resume.ensures.pays before.none before.unions);
+      pays = λ free clear.
+          let before = c.rounds.invariant.pays free clear in
+          let no_table : DueNoTable f c.rounds.self c.try_shift.new.self c.rounds.refused c.try_shift.new.refused c.rounds.room =
+          record { same = c.in_default.ensures.none.1; rises = c.try_shift.ensures.rises; large = c.in_default.ensures.large } in
+          round_stops before no_table g.N.Walk.HAS_SUMMARIES c.limit-limit.result _ _ c.limit-limit.ensures
+          (c.in_ok-resume.ensures.pays (still_none before no_table) (still_unions before no_table))
+          c.next_room-room.ensures.start c.next_room-room.ensures.next;
       summed = c.in_ok-resume.ensures.summed;
     }
 
@@ -239,16 +244,24 @@ returns-in_err-resume-clause-course g c =
 
 -- without unions
 pub returns-in-Some-clause-pays : goal.returns-in-Some-clause-pays
-returns-in-Some-clause-pays g c = λ free.
-    let before = c.rounds.invariant.pays free in
-    round_ends before (c.in-Some.ensures.pays before.none before.unions)
+returns-in-Some-clause-pays g c = λ free clear.
+    let before = c.rounds.invariant.pays free clear in
+    round_over before c.try_shift.ensures.rises (c.in-Some.ensures.pays before.none before.unions)
 
 pub returns-in-Finished-clause-pays : goal.returns-in-Finished-clause-pays
-returns-in-Finished-clause-pays g c = λ free.
-    let before = round_still c.in_default.ensures.none.1 (c.rounds.invariant.pays free) in
-    round_done (round_goes {s = c.resume.new.self} before (c.in_ok-resume.ensures.pays before.none before.unions))
+returns-in-Finished-clause-pays g c = λ free clear.
+    let f = g.N.Walk.tree in
+    let before = c.rounds.invariant.pays free clear in
+    let no_table : DueNoTable f c.rounds.self c.try_shift.new.self c.rounds.refused c.try_shift.new.refused c.rounds.room =
+    record { same = c.in_default.ensures.none.1; rises = c.try_shift.ensures.rises; large = c.in_default.ensures.large } in
+    round_done before no_table {b = due_of f c.resume.new.self} g.N.Walk.HAS_SUMMARIES c.limit-limit.result c.limit-limit.ensures
+    (c.in_ok-resume.ensures.pays (still_none before no_table) (still_unions before no_table)).1
 
 pub returns-in_err-resume-clause-pays : goal.returns-in_err-resume-clause-pays
-returns-in_err-resume-clause-pays g c = λ free.
-    let before = round_still c.in_default.ensures.none.1 (c.rounds.invariant.pays free) in
-    round_ends before (c.in_err-resume.ensures.pays before.none before.unions)
+returns-in_err-resume-clause-pays g c = λ free clear.
+    let f = g.N.Walk.tree in
+    let before = c.rounds.invariant.pays free clear in
+    let no_table : DueNoTable f c.rounds.self c.try_shift.new.self c.rounds.refused c.try_shift.new.refused c.rounds.room =
+    record { same = c.in_default.ensures.none.1; rises = c.try_shift.ensures.rises; large = c.in_default.ensures.large } in
+    round_done before no_table {b = nothing_due c.resume.new.self.visits} g.N.Walk.HAS_SUMMARIES c.limit-limit.result
+    c.limit-limit.ensures (c.in_err-resume.ensures.pays (still_none before no_table) (still_unions before no_table))

@@ -28,7 +28,8 @@ invariant-rounds g l =
       round : IsLinearStart (standing f l.fn.self.printer) → l.refused ≡ 0 → Round f n l.room l.fn.self.visits l.policy l.self;
       first : IsLinearStart (standing f l.fn.self.printer) → l.refused ≡ 0 → 0 < l.fn.room_at_first → n ≤ l.fn.room_at_first
           → (l.room ≡ l.fn.room_at_first) × (l.self ≡ l.fn.self);
-      pays : unions_due (due_of f l.fn.self) ≡ 0 → DueRound f l.fn.self l.self;
+      pays : unions_due (due_of f l.fn.self) ≡ 0 → l.fn.self.printer.queue.start ≡ 0
+          → DueRound f l.fn.self l.self l.refused l.room l.policy;
       summed : IsSummed g.N.Walk.HAS_SUMMARIES f l.self.printer.commands;
     }
 
