@@ -8,21 +8,23 @@ use Rattle.prettyless_sink.specs.declared.error.RenderError.TheVariants.{Documen
 use Rattle.prettyless_model.specs.declared.options.RenderOptions.{RenderOptions}
 use Rattle.prettyless_model.specs.declared.mode.Mode.TheVariants.{Break}
 use Rattle.prettyless_model.specs.Tree.{Tree}
-use Rattle.prettyless_model.specs.Layout.{State, flushed, some_pending}
+use Rattle.prettyless_model.specs.Layout.{State, flushed, initial, some_pending}
 use Rattle.prettyless_probe.specs.Stack.{Task, make_task, tasks}
 use Rattle.prettyless_printer.specs.declared.answer.Choice.{Choice}
 use Rattle.prettyless_printer.specs.declared.answer.RunResult.{RunResult}
 use Rattle.prettyless_printer.specs.declared.answer.RunResult.TheVariants as run_result
 use Rattle.prettyless_printer.specs.declared.run.Run.{Run}
 use Rattle.prettyless_sink.specs.declared.render.Render.{Ghosts}
+use Rattle.prettyless_sink.specs.declared.visits.RenderCost.{RenderCost}
 use Rattle.prettyless_printer.specs.Points.{Point, Seen, Standing, buffer_seen, point_at, point_of, seen_by, standing, state_at, trial_point}
 use Rattle.prettyless_printer.specs.Trials.{make_trial}
 use Rattle.prettyless_printer.specs.Open.{BeginsTrial, Held, Open, Opens, held_of}
 use Rattle.prettyless_printer.specs.Paths.{Chooses, run_of}
+use Rattle.prettyless_printer.specs.Renders.{Begins}
 use Rattle.prettyless_printer.specs.Runs.{InChoice, ReachesWith, RunReaches, RunReachesChoice, Station, station_at, station_of}
 use Rattle.prettyless_printer.specs.Course.{Around, Comes, FlushEnd, GoOverTable, NextFails, Place, RefuseTable, Waiting, place}
 use Rattle.prettyless_printer.specs.CourseOf.{ChoiceCourse, ComesAlone, ComesInChoice, ComesInTrials, ComesToChoice, ComesToStation}
-use Rattle.prettyless_printer.specs.CourseOf.{EndCourse, EndCourses, EndCourseOrStop, RefusedOnce, ErrorCourse, FailsIn, IsDone, NoneFails, StopsInPart}
+use Rattle.prettyless_printer.specs.CourseOf.{EndCourse, EndCourses, EndCourseOrStop, RefusedOnce, RenderCourse, ErrorCourse, FailsIn, IsDone, NoneFails, StopsInPart}
 use Rattle.prettyless_printer.specs.CourseOf.{GoesOn, StopsWhere, TurnCourse, WaitWith, WaitsInChoice, around, choice_waits, place_at}
 use Rattle.prettyless_step.specs.Printing.{tasks_of}
 use Rattle.prettyless_step.specs.declared.printer.Printer.{Printer}
@@ -289,3 +291,13 @@ pub stops_at_options : {P : Place → Type 0} {o o' : RenderOptions} {a : Place}
     → StopsWhere P o' a probes refused → StopsWhere P o a probes refused
 stops_at_options same h =
     record { at = h.at; comes = comes_at same h.comes; there = h.there; read = h.read; refusals = h.refusals }
+
+-- a run begins before a document
+pub begun_course : {A E : Type 0} (has : Bool) {o : RenderOptions} {d : Tree} {p : Standing} {k : ℕ} (v w : RenderCost)
+    (r : Result A (RenderError E)) → Begins o d p → k ≡ v.visits.probes
+    → EndCourse p.options (place_at p k (around [] has v.refused)) w.visits.probes w.refused r → RenderCourse has o d v w r
+begun_course has {d = d} {p = p} {k} v w r begins same h =
+    subst (λ (x : RenderOptions). EndCourse x (place (make_task 0 Break d ∷ []) initial v.visits.probes (around [] has v.refused))
+    w.visits.probes w.refused r) begins.options
+    (subst (λ (x : Place). EndCourse p.options x w.visits.probes w.refused r)
+    (λ j. place (begins.tasks j) (begins.state j) (same j) (around [] has v.refused)) h)

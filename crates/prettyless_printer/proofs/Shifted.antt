@@ -18,6 +18,7 @@ use Rattle.prettyless_printer.specs.declared.buffer.Buffer.{Buffer}
 use Rattle.prettyless_printer.specs.declared.run.Run.{Run}
 use Rattle.prettyless_printer.specs.Points.{Point, Seen, Standing, buffer_seen, point_of, seen_by, standing}
 use Rattle.prettyless_printer.specs.Visits.{suffix_depths}
+use Rattle.prettyless_printer.specs.ShiftPolicy.{probe_factor, probe_grace}
 use Rattle.prettyless_printer.specs.Linear.{IsLinearBound, IsLinear, IsLinearStart}
 use Rattle.prettyless_printer.specs.Open.{Held, all_held, held_of, seconds}
 use Rattle.prettyless_printer.specs.Spending.{Left, Rule, Spends, left}
@@ -89,13 +90,13 @@ begins_small {o} {d} {p} most begins small = omega (arith, ap nodes begins.tasks
 -- a run to the end, from before a document, is a render
 pub begun_renders : {A E : Type 0} (fails : E → Type 0) {o : RenderOptions} {d : Tree} {a b : Point} (m n : ℕ)
     (r : Result A (RenderError E)) → Begins o d a.printer → RunsToEnd fails a b r →
-    m ≤ n → (IsLinearStart a.printer → n ≡ 0 → IsLinearBound 16 1000 (nodes a.printer.tasks) a.visits b.visits) →
+    m ≤ n → (IsLinearStart a.printer → n ≡ 0 → IsLinearBound probe_factor probe_grace (nodes a.printer.tasks) a.visits b.visits) →
     Renders fails o d a.sink b.sink (record { visits = a.visits; refused = m }) (record { visits = b.visits; refused = n }) r
 begun_renders fails {o} {d} {a} {b} m n r begins ran refused few =
     subst (λ (x : RenderOptions). Renders fails x d a.sink b.sink (record { visits = a.visits; refused = m })
     (record { visits = b.visits; refused = n }) r) begins.options
     (renders fails d m n r begins.tasks begins.state ran refused
-    (λ linear none. begins_few 16 1000 a.visits b.visits begins (few (begins_linear begins linear) none)))
+    (λ linear none. begins_few probe_factor probe_grace a.visits b.visits begins (few (begins_linear begins linear) none)))
 
 -- a render that is refused memory before its first node
 pub refused_renders : {A E : Type 0} (fails : E → Type 0) (o : RenderOptions) (d : Tree) (s : Seen) (v : RenderCost) (e : AllocError)

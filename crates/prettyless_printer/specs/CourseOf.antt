@@ -2,6 +2,7 @@
 use Rattle.std.specs.Prelude.{◌≡◌, ℕ, ◌≤◌, ◌<◌, ◌⊎◌, Bool, true, List, [], ◌∷◌, ◌++◌, length, Result, Ok, Err}
 use Rattle.prettyless_model.specs.declared.options.RenderOptions.{RenderOptions}
 use Rattle.prettyless_sink.specs.Sink.{rise}
+use Rattle.prettyless_sink.specs.declared.visits.RenderCost.{RenderCost}
 use Rattle.prettyless_sink.specs.declared.error.RenderError.{RenderError}
 use Rattle.prettyless_sink.specs.declared.error.RenderError.TheVariants.{Document, Sink, Memory}
 use Rattle.prettyless_model.specs.Tree.{Tree, Append, BreakOrFlat, Group, Nest, Text}
@@ -237,10 +238,10 @@ EndCourses has z probes r =
 abbrev pub RefusedOnce : ℕ → ℕ → ℕ → Type 0
 RefusedOnce room old new = (new ≡ old) ⊎ ((0 < room) × (new ≡ rise old))
 
--- the course of a render of a document, over nodes that have summaries or not: from its first node on, with the counts before and after
-abbrev pub RenderCourse : {A E : Type 0} → Bool → RenderOptions → Tree → ℕ → ℕ → ℕ → ℕ → Result A (RenderError E) → Type 0
-RenderCourse has o d old_probes old_refused new_probes new_refused r =
-    EndCourse o (place (make_task 0 Break d ∷ []) initial old_probes (around [] has old_refused)) new_probes new_refused r
+-- the course of a render of a document, over nodes that have summaries or not: from its first node on, with the costs before and after
+abbrev pub RenderCourse : {A E : Type 0} → Bool → RenderOptions → Tree → RenderCost → RenderCost → Result A (RenderError E) → Type 0
+RenderCourse has o d v w r =
+    EndCourse o (place (make_task 0 Break d ∷ []) initial v.visits.probes (around [] has v.refused)) w.visits.probes w.refused r
 
 -- ---- Texts
 

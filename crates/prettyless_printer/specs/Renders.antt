@@ -18,6 +18,7 @@ use Rattle.prettyless_step.specs.Steps.{lay_all, pending_work, work}
 use Rattle.prettyless_printer.specs.Points.{Standing, state_at, Seen, Point, point_at}
 use Rattle.prettyless_printer.specs.Visits.{CountsAtMost, Plain, Rise, RunCountsAtMost, Visited}
 use Rattle.prettyless_printer.specs.AtLeast.{CountsAtLeast, VisitedAtLeast, nothing_left, stack_tally}
+use Rattle.prettyless_printer.specs.ShiftPolicy.{probe_factor, probe_grace}
 use Rattle.prettyless_printer.specs.Linear.{IsLinearBound, IsLinear}
 use Rattle.prettyless_printer.specs.Turns.{bytes_before}
 
@@ -154,7 +155,7 @@ pub record Renders {A E : Type 0} (fails : E → Type 0) (o : RenderOptions) (d 
   -- refusals of memory for a table are counted
   pub refused : v.refused ≤ w.refused
   -- where a table bounds the probes, and none was refused memory, they visit at most sixteen nodes for each node, and a thousand
-  pub few : IsLinear d → w.refused ≡ 0 → IsLinearBound 16 1000 (size d) v.visits w.visits
+  pub few : IsLinear d → w.refused ≡ 0 → IsLinearBound probe_factor probe_grace (size d) v.visits w.visits
   -- on success, at least the nodes that the layout lays are counted, and the probes that it needs
   pub at_least : OnOk r (VisitedAtLeast o d v.visits w.visits)
 

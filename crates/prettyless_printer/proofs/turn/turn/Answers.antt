@@ -69,8 +69,8 @@ down-preserved-in-Ok-Descend g c =
           c.in-Ok-Descend.field-0-is c.in-Ok-Descend.ensures.step);
       summed = c.in-Ok-Descend.ensures.summed;
       course = λ u has on. course_down (c.down.invariant.course u has on) has
-          (asks_here f (make_task c.down.indent c.down.mode (f c.down.node)) c.down.printer hand.options c.step.ensures.rises
-          c.step.ensures.counted (λ needs few. c.in-Ok-Descend.ensures.reads needs few (subst IsStepped (sym c.in-Ok-Descend.field-0-is) tt)))
+          (asks_here f (make_task c.down.indent c.down.mode (f c.down.node)) c.down.printer hand.options c.step.ensures.visits.rises
+          c.step.ensures.visits.counted (λ needs few. c.in-Ok-Descend.ensures.visits.reads needs few (subst IsStepped (sym c.in-Ok-Descend.field-0-is) tt)))
           (descended f c.in-Ok-Descend.next_indent c.down.mode c.in-Ok-Descend.next _ c.down.printer q
           (shown f c.down.printer q c.in-Ok-Descend.field-0 (step_result.Descend c.in-Ok-Descend.next_indent c.in-Ok-Descend.next) hand
           c.in-Ok-Descend.field-0-is c.in-Ok-Descend.ensures.step));
@@ -102,8 +102,8 @@ down-preserved g c =
           c.in-Ok-DescendFlat.field-0-is c.in-Ok-DescendFlat.ensures.step);
       summed = c.in-Ok-DescendFlat.ensures.summed;
       course = λ u has on. course_down (c.down.invariant.course u has on) has
-          (asks_here f (make_task c.down.indent c.down.mode (f c.down.node)) c.down.printer hand.options c.step.ensures.rises
-          c.step.ensures.counted (λ needs few. c.in-Ok-DescendFlat.ensures.reads needs few (subst IsStepped (sym c.in-Ok-DescendFlat.field-0-is) tt)))
+          (asks_here f (make_task c.down.indent c.down.mode (f c.down.node)) c.down.printer hand.options c.step.ensures.visits.rises
+          c.step.ensures.visits.counted (λ needs few. c.in-Ok-DescendFlat.ensures.visits.reads needs few (subst IsStepped (sym c.in-Ok-DescendFlat.field-0-is) tt)))
           (descended f c.in-Ok-DescendFlat.next_indent Flat c.in-Ok-DescendFlat.next _ c.down.printer q
           (shown f c.down.printer q c.in-Ok-DescendFlat.field-0 (step_result.DescendFlat c.in-Ok-DescendFlat.next_indent c.in-Ok-DescendFlat.next) hand
           c.in-Ok-DescendFlat.field-0-is c.in-Ok-DescendFlat.ensures.step));
@@ -463,8 +463,8 @@ returns-in-Err-clause-course g c =
     let f = g.N.Walk.tree in
     rw c.count_more.ensures.more
     (λ u has on. course_refused (c.down.invariant.course u has on) has
-    (asks_in_part f (make_task c.down.indent c.down.mode (f c.down.node)) c.down.printer c.down.invariant.hand.options c.step.ensures.rises
-    c.step.ensures.counted c.step.ensures.reads_at_most))
+    (asks_in_part f (make_task c.down.indent c.down.mode (f c.down.node)) c.down.printer c.down.invariant.hand.options c.step.ensures.visits.rises
+    c.step.ensures.visits.counted c.step.ensures.visits.reads_at_most))
 
 pub returns-in-Ok-Silent-clause-course : goal.returns-in-Ok-Silent-clause-course
 returns-in-Ok-Silent-clause-course g c =
@@ -473,8 +473,8 @@ returns-in-Ok-Silent-clause-course g c =
     let hand = c.down.invariant.hand in
     rw c.count_more-in-Ok-Silent.ensures.more
     (λ u has on. course_wrote (c.down.invariant.course u has on) has
-    (asks_here f (make_task c.down.indent c.down.mode (f c.down.node)) c.down.printer hand.options c.step.ensures.rises
-    c.step.ensures.counted (λ needs few. c.in-Ok-Silent.ensures.reads needs few (subst IsStepped (sym c.in-Ok-Silent.field-0-is) tt)))
+    (asks_here f (make_task c.down.indent c.down.mode (f c.down.node)) c.down.printer hand.options c.step.ensures.visits.rises
+    c.step.ensures.visits.counted (λ needs few. c.in-Ok-Silent.ensures.visits.reads needs few (subst IsStepped (sym c.in-Ok-Silent.field-0-is) tt)))
     (wrote f _ [] c.down.printer q (shown f c.down.printer q c.in-Ok-Silent.field-0 step_result.Silent hand c.in-Ok-Silent.field-0-is
     c.in-Ok-Silent.ensures.step)))
 
@@ -486,8 +486,8 @@ returns-in-Ok-Failed-clause-course g c =
     let t = make_task c.down.indent c.down.mode (f c.down.node) in
     rw c.count_more-in-Ok-Failed.ensures.more
     (λ u has on. course_failed (c.down.invariant.course u has on)
-    (asks_here f t c.down.printer hand.options c.step.ensures.rises
-    c.step.ensures.counted (λ needs few. c.in-Ok-Failed.ensures.reads needs few (subst IsStepped (sym c.in-Ok-Failed.field-0-is) tt)))
+    (asks_here f t c.down.printer hand.options c.step.ensures.visits.rises
+    c.step.ensures.visits.counted (λ needs few. c.in-Ok-Failed.ensures.visits.reads needs few (subst IsStepped (sym c.in-Ok-Failed.field-0-is) tt)))
     (stuck_there f t.mode (step_from c.args.printer.now.options t (standing f c.down.printer)) c.down.printer q
     (shown f c.down.printer q c.in-Ok-Failed.field-0 step_result.Failed hand c.in-Ok-Failed.field-0-is c.in-Ok-Failed.ensures.step)).0)
 
@@ -503,8 +503,8 @@ returns-in-Ok-Choice-clause-course g c =
     hand c.in-Ok-Choice.field-0-is c.in-Ok-Choice.ensures.step) in
     rw c.count_more-in-Ok-Choice.ensures.more
     (λ u has on. course_choice c.in-Ok-Choice.indent (f c.in-Ok-Choice.first) (f c.in-Ok-Choice.second) (c.down.invariant.course u has on)
-    (asks_here f t c.down.printer hand.options c.step.ensures.rises
-    c.step.ensures.counted (λ needs few. c.in-Ok-Choice.ensures.reads needs few (subst IsStepped (sym c.in-Ok-Choice.field-0-is) tt)))
+    (asks_here f t c.down.printer hand.options c.step.ensures.visits.rises
+    c.step.ensures.visits.counted (λ needs few. c.in-Ok-Choice.ensures.visits.reads needs few (subst IsStepped (sym c.in-Ok-Choice.field-0-is) tt)))
     there.0 there.1)
 
 pub returns-in-Ok-write_piece-clause-course : goal.returns-in-Ok-write_piece-clause-course
@@ -514,8 +514,8 @@ returns-in-Ok-write_piece-clause-course g c =
     let hand = c.down.invariant.hand in
     rw c.count_more-in-Ok-Emit.ensures.more
     (λ u has on. course_wrote (c.down.invariant.course u has on) has
-    (asks_here f (make_task c.down.indent c.down.mode (f c.down.node)) c.down.printer hand.options c.step.ensures.rises
-    c.step.ensures.counted (λ needs few. c.in-Ok-Emit.ensures.reads needs few (subst IsStepped (sym c.in-Ok-Emit.field-0-is) tt)))
+    (asks_here f (make_task c.down.indent c.down.mode (f c.down.node)) c.down.printer hand.options c.step.ensures.visits.rises
+    c.step.ensures.visits.counted (λ needs few. c.in-Ok-Emit.ensures.visits.reads needs few (subst IsStepped (sym c.in-Ok-Emit.field-0-is) tt)))
     (wrote f _ (piece_bytes c.in-Ok-Emit.piece) c.down.printer q (shown f c.down.printer q c.in-Ok-Emit.field-0
     (step_result.Emit c.in-Ok-Emit.piece) hand c.in-Ok-Emit.field-0-is c.in-Ok-Emit.ensures.step)))
 
@@ -526,8 +526,8 @@ returns-in-Err-write_piece-clause-course g c =
     let hand = c.down.invariant.hand in
     rw c.count_more-in-Ok-Emit.ensures.more
     (λ u has on. stops_here (course_wrote (c.down.invariant.course u has on) has
-    (asks_here f (make_task c.down.indent c.down.mode (f c.down.node)) c.down.printer hand.options c.step.ensures.rises
-    c.step.ensures.counted (λ needs few. c.in-Ok-Emit.ensures.reads needs few (subst IsStepped (sym c.in-Ok-Emit.field-0-is) tt)))
+    (asks_here f (make_task c.down.indent c.down.mode (f c.down.node)) c.down.printer hand.options c.step.ensures.visits.rises
+    c.step.ensures.visits.counted (λ needs few. c.in-Ok-Emit.ensures.visits.reads needs few (subst IsStepped (sym c.in-Ok-Emit.field-0-is) tt)))
     (wrote f _ (piece_bytes c.in-Ok-Emit.piece) c.down.printer q (shown f c.down.printer q c.in-Ok-Emit.field-0
     (step_result.Emit c.in-Ok-Emit.piece) hand c.in-Ok-Emit.field-0-is c.in-Ok-Emit.ensures.step))))
 
@@ -539,8 +539,8 @@ returns-in-Err-make_room-clause-course g c =
     let n = c.in-Ok-DescendTexts.next in
     let hand = c.down.invariant.hand in
     let t = make_task c.down.indent c.down.mode (f c.down.node) in
-    let asks = asks_here f t c.down.printer hand.options c.step.ensures.rises c.step.ensures.counted
-    (λ needs few. c.in-Ok-DescendTexts.ensures.reads needs few (subst IsStepped (sym c.in-Ok-DescendTexts.field-0-is) tt)) in
+    let asks = asks_here f t c.down.printer hand.options c.step.ensures.visits.rises c.step.ensures.visits.counted
+    (λ needs few. c.in-Ok-DescendTexts.ensures.visits.reads needs few (subst IsStepped (sym c.in-Ok-DescendTexts.field-0-is) tt)) in
     let texts = shown f c.down.printer q c.in-Ok-DescendTexts.field-0 (step_result.DescendTexts i n) hand c.in-Ok-DescendTexts.field-0-is
     c.in-Ok-DescendTexts.ensures.step in
     let down = descended f i Flat n (step_from c.args.printer.now.options t (standing f c.down.printer)) c.down.printer q texts.0 in
@@ -555,8 +555,8 @@ returns-in-Ok-lay_texts-clause-course g c =
     let n = c.in-Ok-DescendTexts.next in
     let hand = c.down.invariant.hand in
     let t = make_task c.down.indent c.down.mode (f c.down.node) in
-    let asks = asks_here f t c.down.printer hand.options c.step.ensures.rises c.step.ensures.counted
-    (λ needs few. c.in-Ok-DescendTexts.ensures.reads needs few (subst IsStepped (sym c.in-Ok-DescendTexts.field-0-is) tt)) in
+    let asks = asks_here f t c.down.printer hand.options c.step.ensures.visits.rises c.step.ensures.visits.counted
+    (λ needs few. c.in-Ok-DescendTexts.ensures.visits.reads needs few (subst IsStepped (sym c.in-Ok-DescendTexts.field-0-is) tt)) in
     let texts = shown f c.down.printer q c.in-Ok-DescendTexts.field-0 (step_result.DescendTexts i n) hand c.in-Ok-DescendTexts.field-0-is
     c.in-Ok-DescendTexts.ensures.step in
     let down = descended f i Flat n (step_from c.args.printer.now.options t (standing f c.down.printer)) c.down.printer q texts.0 in
@@ -578,8 +578,8 @@ returns-in-Err-lay_texts-clause-course g c =
     let n = c.in-Ok-DescendTexts.next in
     let hand = c.down.invariant.hand in
     let t = make_task c.down.indent c.down.mode (f c.down.node) in
-    let asks = asks_here f t c.down.printer hand.options c.step.ensures.rises c.step.ensures.counted
-    (λ needs few. c.in-Ok-DescendTexts.ensures.reads needs few (subst IsStepped (sym c.in-Ok-DescendTexts.field-0-is) tt)) in
+    let asks = asks_here f t c.down.printer hand.options c.step.ensures.visits.rises c.step.ensures.visits.counted
+    (λ needs few. c.in-Ok-DescendTexts.ensures.visits.reads needs few (subst IsStepped (sym c.in-Ok-DescendTexts.field-0-is) tt)) in
     let texts = shown f c.down.printer q c.in-Ok-DescendTexts.field-0 (step_result.DescendTexts i n) hand c.in-Ok-DescendTexts.field-0-is
     c.in-Ok-DescendTexts.ensures.step in
     let down = descended f i Flat n (step_from c.args.printer.now.options t (standing f c.down.printer)) c.down.printer q texts.0 in
