@@ -1,13 +1,15 @@
 -- What a render of a document leaves.
-use Rattle.std.specs.Prelude.{◌≡◌, ◌+◌, ◌*◌, ◌-◌, ◌^◌, ◌≤◌, ℕ, List, Option, Result, min, IfOk, OnOk}
+use Rattle.std.specs.Prelude.{◌≡◌, ◌+◌, ◌*◌, ◌-◌, ◌^◌, ◌≤◌, ℕ, false, List, Option, Result, min, IfOk, OnOk}
 use Rattle.std.specs.Borrow.{GName}
 use Rattle.prettyless_model.specs.Content.{AppendsContent, AppendsKnownContent, suffix_depth}
 use Rattle.prettyless_model.specs.Counts.{laid_nodes, laid_probes}
 use Rattle.prettyless_model.specs.Layout.{layout}
 use Rattle.prettyless_model.specs.Tree.{Tree, size, probed}
 use Rattle.prettyless_model.specs.declared.options.RenderOptions.{RenderOptions}
+use Rattle.prettyless_printer.specs.CourseOf.{RenderCourse}
 use Rattle.prettyless_printer.specs.Linear.{BoundedByTable, IsLinearBound, IsLinear}
 use Rattle.prettyless_printer.specs.Suffixes.{IsLinearButSuffixes, most_visits, unions}
+use Rattle.prettyless_printer.specs.ShiftPolicy.{probe_factor, probe_grace}
 use Rattle.prettyless_printer.specs.Renders.{Rendered, RendersKnown}
 use Rattle.prettyless_sink.specs.Sink.{IfKnown}
 use Rattle.prettyless_sink.specs.declared.error.RenderError.{RenderError}
@@ -50,22 +52,26 @@ pub record CountsVisits {A E : Type 0} (o : RenderOptions) (d : Tree) (refused :
   pub probes : suffix_depth d ≡ 0 → w.probes ≤ v.probes + size d * probed d
   -- Where a table bounds the probes of the document, and none was refused memory, probes visit at most sixteen nodes for
   -- each node, and a thousand, whatever the answer: so all visits are linear in the document.
-  pub few : IsLinear d → refused ≡ 0 → IsLinearBound 16 1000 (size d) v w
+  pub few : IsLinear d → refused ≡ 0 → IsLinearBound probe_factor probe_grace (size d) v w
   -- Without unions the printer visits each node once at most, and once more, for each line suffix, the break before which that
   -- is laid: fewer than two visits for each node, whatever the answer.
   pub with_suffixes : unions d ≡ 0 → w.printer ≤ v.printer + most_visits d
   -- Where a table bounds the probes of the document too, and none was refused memory, probes visit at most sixteen nodes for each
   -- of these visits of the printer, and a thousand, whatever the answer.
-  pub few_with_suffixes : IsLinearButSuffixes d → refused ≡ 0 → IsLinearBound 16 1000 (most_visits d) v w
+  pub few_with_suffixes : IsLinearButSuffixes d → refused ≡ 0 → IsLinearBound probe_factor probe_grace (most_visits d) v w
   -- `Ok`: the printer visits at least the nodes that the layout lays, up to the greatest count.
   pub laid : OnOk result (min (v.printer + laid_nodes o d) (2 ^ 64 - 1) ≤ w.printer)
   -- `Ok`: the probes visit at least one node for each probe that the layout needs, up to the greatest count.
   pub asked : OnOk result (min (v.probes + laid_probes o d) (2 ^ 64 - 1) ≤ w.probes)
 
 -- The same of a render over a table of all nodes. It is so of the number of tables that were refused memory in this render.
-pub record CountsVisitsOverTable {A E : Type 0} (o : RenderOptions) (d : Tree) (v w : Visits) (result : Result A E) : Type 0 where
+pub record CountsVisitsOverTable {A E : Type 0} (o : RenderOptions) (d : Tree) (v w : Visits) (result : Result A (RenderError E))
+    : Type 0 where
   -- So many tables were refused memory.
   pub refused : ℕ
   pub counts : CountsVisits o d refused v w result
   -- Where none was, probes visit at most two nodes for each node of a linear document of at most 1,048,576.
   pub twice : BoundedByTable d refused v w
+  -- The count of probes is that of the course that the render takes from the document's first node on: it rose by exactly what all
+  -- probes of the render read, up to the greatest count. After want of memory, the last probe counts at most what it reads.
+  pub course : RenderCourse false o d (record { visits = v; refused = 0 }) (record { visits = w; refused = refused }) result

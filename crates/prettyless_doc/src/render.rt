@@ -1,9 +1,10 @@
 //! Renders of a document.
-ghost use Rattle.std.specs.Prelude.{◌≡◌, ◌≤◌, ⊤};
+ghost use Rattle.std.specs.Prelude.{◌≡◌, ◌≤◌, ⊤, false};
 ghost use Rattle.std.specs.IoError.{error_kind};
 ghost use Rattle.std.specs.declared.io.ErrorKind.TheVariants.{Other};
 ghost use Rattle.prettyless_model.specs.Options.{options_at};
 ghost use Rattle.prettyless_doc.specs.DocTree.{tree_of};
+ghost use Rattle.prettyless_printer.specs.CourseOf.{RenderCourse};
 ghost use Rattle.prettyless_doc.specs.Rendering.{CountsVisits, CountsVisitsOverTable, RendersDoc, RendersDocInto};
 
 use crate::doc::{Doc, DocPtr};
@@ -48,7 +49,8 @@ impl<'a, T: DocPtr<'a>> Doc<'a, T> {
     /// how many tables were refused memory, also where it fails. Take it to see what a render costs: it takes no more time
     /// or memory than that render.
     ///
-    /// The visits have the bounds of `render_raw_counted_with`, but that of two visits a node.
+    /// The visits have the bounds of `render_raw_counted_with`, but that of two visits a node. Those of probes are exactly what all
+    /// probes of the render read, up to the greatest `u64`; where memory was refused in one, no more than it reads.
     ///
     /// ```
     /// let (options, mut cost) = (RenderOptions::new(80), RenderCost::default());
@@ -65,6 +67,7 @@ impl<'a, T: DocPtr<'a>> Doc<'a, T> {
             (W.lender out.old) (W.lender out.new) (W.bytes out.old) (W.bytes out.new) (W.failures out.old) (W.failures out.new) result }
         ensures counts { CountsVisits options (tree_of T.tree self.now) cost.new.refused cost.old.visits cost.new.visits result }
         ensures refused { cost.old.refused ≤ cost.new.refused }
+        ensures course { RenderCourse false options (tree_of T.tree self.now) cost.old cost.new result }
     {
         render::render(alloc, self, options, out, cost)
     }

@@ -17,52 +17,52 @@ use Rattle.prettyless_step.specs.Printing.{state_of, tasks_of}
 use Rattle.prettyless_step.specs.declared.printer.Printer.{Printer}
 use Rattle.prettyless_step.proofs.Shown.{IsChoice, IsStuck, StepsTo, step_at}
 use Rattle.prettyless_printer.specs.Points.{Standing, standing, state_at}
-use Rattle.prettyless_printer.specs.Course.{Around, Asks, AsksInPart, Comes, Course, Event, Follows, HasOwn, LeadsTo, NextChooses, NextFails}
-use Rattle.prettyless_printer.specs.Course.{Place, StaysWithin, Visit, Waiting, place}
-use Rattle.prettyless_printer.specs.CourseOf.{ComesToChoice, GoesOn, StopsInPart, StopsWhere, Anywhere, FailsIn, after_texts}
+use Rattle.prettyless_printer.specs.Course.{Around, Asks, AsksInPart, Comes, Course, Event, Follows, HasOwn, StepLeadsTo, NextChooses, NextFails}
+use Rattle.prettyless_printer.specs.Course.{RunPlace, TrialIsWithin, Visit, Waiting, place}
+use Rattle.prettyless_printer.specs.CourseOf.{ComesToChoice, TrialGoesOn, StopsInPart, StopsWhere, Anywhere, FailsIn, after_texts}
 use Rattle.prettyless_printer.specs.CourseOf.{place_at, place_with}
 use Rattle.prettyless_printer.proofs.Standings.{Descended, Wrote, state_stands, step_from}
 
 -- ---- One after another
 
 -- nothing happened
-pub come_same : (o : RenderOptions) (a : Place) → Comes o a a
+pub come_same : (o : RenderOptions) (a : RunPlace) → Comes o a a
 come_same o a = record { events = []; course = refl }
 
-course_then : (o : RenderOptions) (es fs : List Event) (a b c : Place) → Course o es a b → Course o fs b c → Course o (es ++ fs) a c
-course_then o [] fs a b c h k = subst (λ (z : Place). Course o fs z c) h k
+course_then : (o : RenderOptions) (es fs : List Event) (a b c : RunPlace) → Course o es a b → Course o fs b c → Course o (es ++ fs) a c
+course_then o [] fs a b c h k = subst (λ (z : RunPlace). Course o fs z c) h k
 course_then o (e ∷ es) fs a b c h k = (h.0, h.1, course_then o es fs h.0 b c h.2 k)
 
-pub come_then : {o : RenderOptions} {a b c : Place} → Comes o a b → Comes o b c → Comes o a c
+pub come_then : {o : RenderOptions} {a b c : RunPlace} → Comes o a b → Comes o b c → Comes o a c
 come_then {o} {a} {b} {c} h k =
     record { events = h.events ++ k.events; course = course_then o h.events k.events a b c h.course k.course }
 
 -- one thing happened
-pub come_by : {o : RenderOptions} {a b : Place} (e : Event) → Follows o e a b → Comes o a b
+pub come_by : {o : RenderOptions} {a b : RunPlace} (e : Event) → Follows o e a b → Comes o a b
 come_by {b = b} e h = record { events = e ∷ []; course = (b, h, refl) }
 
 -- a run stops somewhere, or is refused memory, after it has come to a place
-pub stops_after : {P : Place → Type 0} {o : RenderOptions} {a b : Place} {probes refused : ℕ} → Comes o a b
+pub stops_after : {P : RunPlace → Type 0} {o : RenderOptions} {a b : RunPlace} {probes refused : ℕ} → Comes o a b
     → StopsWhere P o b probes refused → StopsWhere P o a probes refused
 stops_after h k = record { at = k.at; comes = come_then h k.comes; there = k.there; read = k.read; refusals = k.refusals }
 
-pub stops_in_part_after : {o : RenderOptions} {a b : Place} {probes refused : ℕ} → Comes o a b → StopsInPart o b probes refused
+pub stops_in_part_after : {o : RenderOptions} {a b : RunPlace} {probes refused : ℕ} → Comes o a b → StopsInPart o b probes refused
     → StopsInPart o a probes refused
 stops_in_part_after h k = record { at = k.at; comes = come_then h k.comes; part = k.part; refusals = k.refusals }
 
 -- it stops where it is
-pub stops_here : {o : RenderOptions} {a b : Place} → Comes o a b → StopsWhere Anywhere o a b.probes b.around.refused
+pub stops_here : {o : RenderOptions} {a b : RunPlace} → Comes o a b → StopsWhere Anywhere o a b.probes b.around.refused
 stops_here {b = b} h = record { at = b; comes = h; there = tt; read = refl; refusals = refl }
 
-pub stops_at : {o : RenderOptions} {a b : Place} {k : ℕ} → Comes o a b → b.probes ≡ k → StopsWhere Anywhere o a k b.around.refused
+pub stops_at : {o : RenderOptions} {a b : RunPlace} {k : ℕ} → Comes o a b → b.probes ≡ k → StopsWhere Anywhere o a k b.around.refused
 stops_at {b = b} h e = record { at = b; comes = h; there = tt; read = e; refusals = refl }
 
-pub refused_here : {o : RenderOptions} {a b : Place} → Comes o a b → StopsInPart o a b.probes b.around.refused
+pub refused_here : {o : RenderOptions} {a b : RunPlace} → Comes o a b → StopsInPart o a b.probes b.around.refused
 refused_here {b = b} h = record { at = b; comes = h; part = inl refl; refusals = refl }
 
 -- ---- One visit
 
-leads_to : (step : Step) (ts us : List Task) (bytes : List ℕ) (v : State) → StepsTo step ts bytes us v → LeadsTo step ts us v
+leads_to : (step : Step) (ts us : List Task) (bytes : List ℕ) (v : State) → StepsTo step ts bytes us v → StepLeadsTo step ts us v
 leads_to (Move b pushed u) ts us bytes v h = (h.1, h.2)
 leads_to Stuck ts us bytes v h = absurd h
 leads_to (Choose i x y) ts us bytes v h = absurd h
@@ -112,18 +112,18 @@ asks_in_part f {has} {o} {k} {n} t p same rises most at_most =
 -- ---- A turn
 
 -- A turn has come to a current task, above a printer's stack.
-pub record InCourse (o : RenderOptions) (a : Place) (u : Around) (t : Task) (p : Standing) (m : ℕ) : Type 0 where
+pub record InCourse (o : RenderOptions) (a : RunPlace) (u : Around) (t : Task) (p : Standing) (m : ℕ) : Type 0 where
   pub comes : Comes o a (place_with t p m u)
   pub own : HasOwn u.trials (t ∷ p.tasks)
-  pub within : StaysWithin u.trials (state_at p)
+  pub within : TrialIsWithin u.trials (state_at p)
 
 -- the next command is the current one
 pub course_begins : {o : RenderOptions} {u : Around} {t : Task} {m : ℕ} (a p : Standing) → a.tasks ≡ t ∷ p.tasks → state_at p ≡ state_at a
-    → GoesOn u a.tasks (state_at a) → InCourse o (place_at a m u) u t p m
+    → TrialGoesOn u a.tasks (state_at a) → InCourse o (place_at a m u) u t p m
 course_begins {o} {u} {t} {m} a p next same on = record {
-  comes = subst (λ (z : Place). Comes o (place_at a m u) z) (λ j. place (next j) (sym same j) m u) (come_same o (place_at a m u));
+  comes = subst (λ (z : RunPlace). Comes o (place_at a m u) z) (λ j. place (next j) (sym same j) m u) (come_same o (place_at a m u));
   own = subst (HasOwn u.trials) next on.0;
-  within = subst (StaysWithin u.trials) (sym same) on.1;
+  within = subst (TrialIsWithin u.trials) (sym same) on.1;
 }
 
 own_long : (ws : List Waiting) (ts us : List Task) → length ts ≤ length us → HasOwn ws ts → HasOwn ws us
@@ -131,7 +131,7 @@ own_long [] ts us l h = tt
 own_long (w ∷ ws) ts us l h = omega (arith, l, h)
 
 -- its step leads on
-pub course_steps : {o : RenderOptions} {a : Place} {u : Around} {t : Task} {p : Standing} {m n : ℕ} {has : Bool}
+pub course_steps : {o : RenderOptions} {a : RunPlace} {u : Around} {t : Task} {p : Standing} {m n : ℕ} {has : Bool}
     (bytes : List ℕ) {us : List Task} {v : State} → InCourse o a u t p m → u.has ≡ has → Asks has o t p.tasks (state_at p) m n
     → StepsTo (step_from o t p) p.tasks bytes us v → Comes o a (place us v n u)
 course_steps {o} {a} {u} {t} {p} {m} {n} {has} bytes {us} {v} h same asks steps =
@@ -147,22 +147,22 @@ course_steps {o} {a} {u} {t} {p} {m} {n} {has} bytes {us} {v} h same asks steps 
     }))
 
 -- to the next node
-pub course_down : {o : RenderOptions} {a : Place} {u : Around} {t s : Task} {p q : Standing} {m n : ℕ} {has : Bool} → InCourse o a u t p m
+pub course_down : {o : RenderOptions} {a : RunPlace} {u : Around} {t s : Task} {p q : Standing} {m n : ℕ} {has : Bool} → InCourse o a u t p m
     → u.has ≡ has → Asks has o t p.tasks (state_at p) m n → Descended s (step_from o t p) p q → InCourse o a u s q n
 course_down {u = u} {t = t} {s = s} {p = p} {q = q} h same asks down = record {
   comes = course_steps [] h same asks down.steps_to;
   own = own_long u.trials (t ∷ p.tasks) (s ∷ q.tasks) (omega (arith, down.long)) h.own;
-  within = subst (StaysWithin u.trials) (sym down.state) h.within;
+  within = subst (TrialIsWithin u.trials) (sym down.state) h.within;
 }
 
 -- to the end of the turn
-pub course_wrote : {o : RenderOptions} {a : Place} {u : Around} {t : Task} {p q : Standing} {m n : ℕ} {has : Bool}
+pub course_wrote : {o : RenderOptions} {a : RunPlace} {u : Around} {t : Task} {p q : Standing} {m n : ℕ} {has : Bool}
     {bytes : List ℕ} → InCourse o a u t p m → u.has ≡ has → Asks has o t p.tasks (state_at p) m n → Wrote (step_from o t p) bytes p q
     → Comes o a (place_at q n u)
 course_wrote {bytes = bytes} h same asks moved = course_steps bytes h same asks moved.steps_to
 
 -- it fails
-pub course_failed : {o : RenderOptions} {a : Place} {u : Around} {t : Task} {p : Standing} {m n : ℕ} {has : Bool} → InCourse o a u t p m
+pub course_failed : {o : RenderOptions} {a : RunPlace} {u : Around} {t : Task} {p : Standing} {m n : ℕ} {has : Bool} → InCourse o a u t p m
     → Asks has o t p.tasks (state_at p) m n → IsStuck (step_from o t p) → StopsWhere (FailsIn o u) o a n u.refused
 course_failed {o} {a} {u} {t} {p} {m} {n} h asks stuck = record {
   at = place_with t p m u;
@@ -173,7 +173,7 @@ course_failed {o} {a} {u} {t} {p} {m} {n} h asks stuck = record {
 }
 
 -- a choice comes next
-pub course_choice : {o : RenderOptions} {a : Place} {u : Around} {t : Task} {p q : Standing} {m n : ℕ} {has : Bool} (i : ℕ) (x y : Tree)
+pub course_choice : {o : RenderOptions} {a : RunPlace} {u : Around} {t : Task} {p q : Standing} {m n : ℕ} {has : Bool} (i : ℕ) (x y : Tree)
     → InCourse o a u t p m → Asks has o t p.tasks (state_at p) m n → IsChoice (step_from o t p) i x y → q ≡ p
     → ComesToChoice o a u i x y q n
 course_choice {o} {a} {u} {t} {p} {q} {m} {n} i x y h asks choice same =
@@ -188,7 +188,7 @@ course_choice {o} {a} {u} {t} {p} {q} {m} {n} i x y h asks choice same =
     }))
 
 -- its visit is refused memory
-pub course_refused : {o : RenderOptions} {a : Place} {u : Around} {t : Task} {p : Standing} {m n : ℕ} {has : Bool} → InCourse o a u t p m
+pub course_refused : {o : RenderOptions} {a : RunPlace} {u : Around} {t : Task} {p : Standing} {m n : ℕ} {has : Bool} → InCourse o a u t p m
     → u.has ≡ has → AsksInPart has o t p.tasks (state_at p) m n → StopsInPart o a n u.refused
 course_refused {o} {a} {u} {t} {p} {m} {n} h same asks = record {
   at = place_with t p m u;
@@ -208,7 +208,7 @@ course_refused {o} {a} {u} {t} {p} {m} {n} h same asks = record {
 
 -- a node that is laid flat asks no probe, and gives way to these tasks
 flat_visit : {o : RenderOptions} {u : Around} {t : Task} {ts us : List Task} {st v : State} {k : ℕ} → HasOwn u.trials (t ∷ ts)
-    → LeadsTo (step_at o t ts st) ts us v → each_probe t.tree t.mode ≡ 0 → asked t.tree t.mode (nodes ts) ≡ 0
+    → StepLeadsTo (step_at o t ts st) ts us v → each_probe t.tree t.mode ≡ 0 → asked t.tree t.mode (nodes ts) ≡ 0
     → Comes o (place (t ∷ ts) st k u) (place us v k u)
 flat_visit {o} {u} {t} {ts} {us} {st} {v} {k} own leads unasked none =
     come_by Visit (record {
@@ -255,9 +255,9 @@ texts_come {o} {u} i (Group d) ts st h own =
 texts_come i _ ts st h own = absurd h
 
 -- the document that a step led to is laid as its texts
-pub course_laid : {o : RenderOptions} {a : Place} {u : Around} {i m n : ℕ} {d : Tree} {p : Standing} (q : Standing) → IsTexts d
+pub course_laid : {o : RenderOptions} {a : RunPlace} {u : Around} {i m n : ℕ} {d : Tree} {p : Standing} (q : Standing) → IsTexts d
     → InCourse o a u (make_task i Flat d) p m → q.tasks ≡ p.tasks → state_at q ≡ after_texts o d (state_at p) → n ≡ m
     → Comes o a (place_at q n u)
 course_laid {o} {a} {u} {i} {m} {d} {p} q texts h tasks state count =
-    subst (λ (z : Place). Comes o a z) (λ j. place (sym tasks j) (sym state j) (sym count j) u)
+    subst (λ (z : RunPlace). Comes o a z) (λ j. place (sym tasks j) (sym state j) (sym count j) u)
     (come_then h.comes (texts_come i d p.tasks (state_at p) texts h.own))

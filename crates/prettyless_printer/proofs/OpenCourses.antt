@@ -20,8 +20,8 @@ use Rattle.prettyless_printer.specs.Points.{Point, Seen, Standing, point_at, sta
 use Rattle.prettyless_printer.specs.Trials.{AtChoice, Marks, Restores, Trial, TrialComplete, TrialRejected, TrialRunning, TrialTurns}
 use Rattle.prettyless_printer.specs.Trials.{make_trial}
 use Rattle.prettyless_printer.specs.Open.{BeginsTrial, Chain, Held, Link, Marked, Open, Opens, below_all, held_of}
-use Rattle.prettyless_printer.specs.Course.{Around, Comes, KeepBranch, Place, TakeSecond, TryBranch, Waiting, end_fits, place}
-use Rattle.prettyless_printer.specs.CourseOf.{ComesInTrials, ComesToChoice, FailsIn, GoesOn, IsIn, RejectedIn, StopsInPart, StopsWhere}
+use Rattle.prettyless_printer.specs.Course.{Around, Comes, KeepBranch, RunPlace, TakeSecond, TryBranch, Waiting, end_fits, place}
+use Rattle.prettyless_printer.specs.CourseOf.{ComesInTrials, ComesToChoice, FailsIn, TrialGoesOn, IsIn, RejectedIn, StopsInPart, StopsWhere}
 use Rattle.prettyless_printer.specs.CourseOf.{TrialCourse, TrialCourses, TrialsCourse, TurnCourse, around, chain_waits, open_waits, place_at, waiting_of}
 use Rattle.prettyless_printer.proofs.Chains.{Took, back_inner, chain_last, chain_pop, chain_push, first_last, kept_inner, more_inner}
 use Rattle.prettyless_printer.proofs.Courses.{come_by, come_same, come_then, refused_here, stops_in_part_after}
@@ -100,7 +100,7 @@ kept_follows {o} {t} {y} {b} {m} {r} {outer} {ws} {has} {k} {refused} same is ma
     })
 
 -- it is undone, and its second branch comes next
-undone_follows : {o : RenderOptions} {a : Place} {t : Trial} {y : Tree} {b : Point} {m : Mark} {i : ℕ} {r q : Standing} {outer : List Waiting}
+undone_follows : {o : RenderOptions} {a : RunPlace} {t : Trial} {y : Tree} {b : Point} {m : Mark} {i : ℕ} {r q : Standing} {outer : List Waiting}
     {has : Bool} {k refused : ℕ} → StopsWhere (RejectedIn o (waiting_of t y) (around (waiting_of t y ∷ outer) has refused)) o a k refused
     → Marked m t.start → i ≡ t.indent → TrialRejected t b → Restores m b.printer r → Pushed (make_task i Break y) r q
     → Comes o a (place_at q k (around outer has refused))
@@ -119,7 +119,7 @@ undone_follows {o} {a} {t} {y} {b} {m} {i} {r} {q} {outer} {has} {k} {refused} s
     }))
 
 -- a trial more is open
-pub tried_follows : {o : RenderOptions} {a : Place} {i : ℕ} {x y : Tree} (b : Point) {q : Standing} {ws : List Waiting} {has : Bool}
+pub tried_follows : {o : RenderOptions} {a : RunPlace} {i : ℕ} {x y : Tree} (b : Point) {q : Standing} {ws : List Waiting} {has : Bool}
     {k refused : ℕ} → ComesToChoice o a (around ws has refused) i x y b.printer k → BeginsTrial i x b.printer q
     → Comes o a (place_at q k (around (waiting_of (make_trial b i x) y ∷ ws) has refused))
 tried_follows {o} {a} {i} {x} {y} b {q} {ws} {has} {k} {refused} h begins =
@@ -136,7 +136,7 @@ tried_follows {o} {a} {i} {x} {y} b {q} {ws} {has} {k} {refused} h begins =
 
 -- it goes on
 pub goes_in : {w : Waiting} {below : ℕ} {p : Standing} (ws : List Waiting) (has : Bool) (refused : ℕ) → IsIn w below p
-    → below < length p.tasks → GoesOn (around (w ∷ ws) has refused) p.tasks (state_at p)
+    → below < length p.tasks → TrialGoesOn (around (w ∷ ws) has refused) p.tasks (state_at p)
 goes_in ws has refused within more = (omega (arith, more, within.height), within.within)
 
 -- it is at its end, and the padding does not fit
@@ -152,7 +152,7 @@ rejected_at_end {w} {k = k} {p = p} {ws = ws} {has = has} {refused = refused} wi
 }
 
 -- it went past the width
-pub rejected_past : {o : RenderOptions} {a : Place} {w : Waiting} {ws : List Waiting} {has : Bool} {k refused : ℕ} (q : Standing)
+pub rejected_past : {o : RenderOptions} {a : RunPlace} {w : Waiting} {ws : List Waiting} {has : Bool} {k refused : ℕ} (q : Standing)
     → Comes o a (place_at q k (around (w ∷ ws) has refused)) → q.within ≡ false
     → StopsWhere (RejectedIn o w (around (w ∷ ws) has refused)) o a k refused
 rejected_past {w = w} {ws = ws} {has = has} {k = k} {refused = refused} q h past = record {
@@ -164,18 +164,18 @@ rejected_past {w = w} {ws = ws} {has = has} {k = k} {refused = refused} q h past
 }
 
 -- it failed
-pub rejected_failed : {o : RenderOptions} {a : Place} {w : Waiting} {ws : List Waiting} {has : Bool} {k refused : ℕ}
+pub rejected_failed : {o : RenderOptions} {a : RunPlace} {w : Waiting} {ws : List Waiting} {has : Bool} {k refused : ℕ}
     → StopsWhere (FailsIn o (around (w ∷ ws) has refused)) o a k refused
     → StopsWhere (RejectedIn o w (around (w ∷ ws) has refused)) o a k refused
 rejected_failed h =
     record { at = h.at; comes = h.comes; there = (inl h.there.0, h.there.1); read = h.read; refusals = h.refusals }
 
 -- its sink failed, or memory was refused
-pub stopped_in_part : {P : Place → Type 0} {o : RenderOptions} {a : Place} {k refused : ℕ} → StopsWhere P o a k refused
+pub stopped_in_part : {P : RunPlace → Type 0} {o : RenderOptions} {a : RunPlace} {k refused : ℕ} → StopsWhere P o a k refused
     → StopsInPart o a k refused
 stopped_in_part h = record { at = h.at; comes = h.comes; part = inl (sym h.read); refusals = h.refusals }
 
-pub error_in_part : {N E : Type 0} (f : N → Tree) {o : RenderOptions} {a : Place} (u : Around) (q : Standing) {k : ℕ} (e : RenderError E)
+pub error_in_part : {N E : Type 0} (f : N → Tree) {o : RenderOptions} {a : RunPlace} (u : Around) (q : Standing) {k : ℕ} (e : RenderError E)
     → TurnCourse {E = E} f o a u q k (Err e) → StopsInPart o a k u.refused
 error_in_part f u q (Document e) h = absurd h
 error_in_part f u q (Sink e) h = stopped_in_part h
@@ -184,7 +184,7 @@ error_in_part f u q (Memory e) h = h
 -- ---- A turn of the innermost one
 
 -- it is the innermost of those that wait
-at_inner : {o : RenderOptions} {a : Place} (t : Trial) (z : Tree) (outer : List Waiting) {ws : List Waiting} (b : Standing) (k : ℕ) (has : Bool) (refused : ℕ)
+at_inner : {o : RenderOptions} {a : RunPlace} (t : Trial) (z : Tree) (outer : List Waiting) {ws : List Waiting} (b : Standing) (k : ℕ) (has : Bool) (refused : ℕ)
     → ws ≡ waiting_of t z ∷ outer → Comes o a (place_at b k (around ws has refused))
     → Comes o a (place_at b k (around (waiting_of t z ∷ outer) has refused))
 at_inner {o} {a} t z outer b k has refused is h = subst (λ (v : List Waiting). Comes o a (place_at b k (around v has refused))) is h
@@ -199,7 +199,7 @@ turn_of E f has {a = a} b {t = t} z outer refused r same courses on =
     (waiting_of t z) (around (waiting_of t z ∷ outer) has refused) b.printer b.visits.probes r) same
     (courses (waiting_of t z) outer refused (is_in z on))
 
-module _ {N : Type 0} (E : Type 0) (f : N → Tree) {o : RenderOptions} {a0 : Place} (has : Bool) {refused : ℕ} {s : Trial} {y : Tree} {a : Point} (b : Point)
+module _ {N : Type 0} (E : Type 0) (f : N → Tree) {o : RenderOptions} {a0 : RunPlace} (has : Bool) {refused : ℕ} {s : Trial} {y : Tree} {a : Point} (b : Point)
     where
   -- it goes on
   pub course_goes : (us : List Held) → ComesInTrials o a0 has refused s y us a → a.printer.options ≡ o
@@ -401,11 +401,11 @@ module _ {N : Type 0} (E : Type 0) (f : N → Tree) {o : RenderOptions} {a0 : Pl
 -- ---- By other names
 
 -- the same trials are held
-pub in_held : {o : RenderOptions} {a : Place} {has : Bool} {refused : ℕ} {s : Trial} {y : Tree} {us vs : List Held} {b : Point} → us ≡ vs
+pub in_held : {o : RenderOptions} {a : RunPlace} {has : Bool} {refused : ℕ} {s : Trial} {y : Tree} {us vs : List Held} {b : Point} → us ≡ vs
     → ComesInTrials o a has refused s y vs b → ComesInTrials o a has refused s y us b
 in_held {o} {a} {has} {refused} {s} {y} {b = b} e h = subst (λ (z : List Held). ComesInTrials o a has refused s y z b) (sym e) h
 
-pub in_run : {N : Type 0} (f : N → Tree) {o : RenderOptions} {a : Place} {has : Bool} {refused : ℕ} {s : Trial} {y : Tree} (q r : Run N)
+pub in_run : {N : Type 0} (f : N → Tree) {o : RenderOptions} {a : RunPlace} {has : Bool} {refused : ℕ} {s : Trial} {y : Tree} (q r : Run N)
     → q ≡ r → ComesInTrials o a has refused s y (held_of f r) (trial_point f r)
     → ComesInTrials o a has refused s y (held_of f q) (trial_point f q)
 in_run f {o} {a} {has} {refused} {s} {y} q r e h =
@@ -416,11 +416,11 @@ pub opens_in : {N : Type 0} {f : N → Tree} {i : ℕ} {y : Tree} {p : Standing}
 opens_in {f = f} {i} {y} {p} {s} {ws = ws} e h = subst (λ (z : List Held). Opens f i y p s z ws) e h
 
 -- as much was read
-pub part_at : {o : RenderOptions} {a : Place} {k n refused : ℕ} → n ≡ k → StopsInPart o a k refused → StopsInPart o a n refused
+pub part_at : {o : RenderOptions} {a : RunPlace} {k n refused : ℕ} → n ≡ k → StopsInPart o a k refused → StopsInPart o a n refused
 part_at {o} {a} {refused = refused} e h = subst (λ (z : ℕ). StopsInPart o a z refused) (sym e) h
 
 -- it ended in an error
-pub trials_error : {E : Type 0} {o : RenderOptions} {a : Place} (has : Bool) {refused : ℕ} (s : Trial) (y : Tree) (b : Point) (us : List Held)
+pub trials_error : {E : Type 0} {o : RenderOptions} {a : RunPlace} (has : Bool) {refused : ℕ} (s : Trial) (y : Tree) (b : Point) (us : List Held)
     (r : Result TrialResult E) → IsErr r → StopsInPart o a b.visits.probes refused → TrialsCourse o a has refused s y b us r
 trials_error has s y b us (Ok x) e h = absurd (cc)
 trials_error has s y b us (Err x) e h = h

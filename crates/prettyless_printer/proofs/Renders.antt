@@ -21,6 +21,7 @@ use Rattle.prettyless_probe.specs.Stack.{Task, make_task, nodes, tasks}
 use Rattle.prettyless_step.specs.Steps.{lay_all, pending_work}
 use Rattle.prettyless_printer.specs.Points.{Point, Seen, Standing, state_at}
 use Rattle.prettyless_printer.specs.Suffixes.{IsLinearButSuffixes, most_visits, unions}
+use Rattle.prettyless_printer.specs.ShiftPolicy.{probe_factor, probe_grace}
 use Rattle.prettyless_printer.specs.Linear.{IsLinearBound, IsLinear}
 use Rattle.prettyless_printer.specs.Turns.{bytes_before}
 use Rattle.prettyless_printer.specs.Renders.{Finishing, FlushesEnd, Renders, RunsToEnd, rest_of, to_end, Stopped, Flushed, Rendered}
@@ -191,9 +192,9 @@ begins p d e s =
 -- a run to the end, from a document that is the only task, is a render
 pub renders : {A E : Type 0} (fails : E → Type 0) (d : Tree) {a b : Point} (m n : ℕ) (r : Result A (RenderError E))
     → a.printer.tasks ≡ make_task 0 Break d ∷ [] → state_at a.printer ≡ initial → RunsToEnd fails a b r →
-    m ≤ n → (IsLinear d → n ≡ 0 → IsLinearBound 16 1000 (size d) a.visits b.visits) →
+    m ≤ n → (IsLinear d → n ≡ 0 → IsLinearBound probe_factor probe_grace (size d) a.visits b.visits) →
     (unions d ≡ 0 → b.visits.printer ≤ a.visits.printer + most_visits d) →
-    (IsLinearButSuffixes d → n ≡ 0 → IsLinearBound 16 1000 (most_visits d) a.visits b.visits) →
+    (IsLinearButSuffixes d → n ≡ 0 → IsLinearBound probe_factor probe_grace (most_visits d) a.visits b.visits) →
     Renders fails a.printer.options d a.sink b.sink (record { visits = a.visits; refused = m })
     (record { visits = b.visits; refused = n }) r
 renders fails d {a} {b} m n r e s h refused few with_suffixes few_with_suffixes = record {

@@ -9,7 +9,7 @@ use Rattle.prettyless_probe.specs.Stack.{nodes, trees}
 use Rattle.prettyless_printer.specs.declared.run.Run.{Run}
 use Rattle.prettyless_printer.specs.declared.shift_policy.ShiftPolicy.{ShiftPolicy}
 use Rattle.prettyless_printer.specs.Points.{Standing}
-use Rattle.prettyless_printer.specs.ShiftPolicy.{probe_limit}
+use Rattle.prettyless_printer.specs.ShiftPolicy.{probe_factor, probe_grace, probe_limit}
 use Rattle.prettyless_printer.specs.Open.{Held, run_nodes, seconds}
 use Rattle.prettyless_printer.specs.Linear.{IsLinearBound, IsLinearStart}
 use Rattle.prettyless_printer.specs.Spending.{AllHaveSummaries, Left, Spends, left, left_nodes, left_of, none_left, rule_of}
@@ -20,7 +20,7 @@ pub record Within (n : ℕ) (v : Visits) (l : Left) : Type 0 where
   pub printer : l.visits.printer + left_nodes l ≤ v.printer + n
   pub queue : l.queue ≡ []
   pub have : AllHaveSummaries l
-  pub probes : l.visits.probes + 2 * left_nodes l ≤ v.probes + (16 * n + 1000)
+  pub probes : l.visits.probes + 2 * left_nodes l ≤ v.probes + (probe_factor * n + probe_grace)
 
 pub within_start : (p : Standing) (us : List Held) (v : Visits) → us ≡ [] → IsLinearStart p
     → Within (nodes p.tasks) v (left p (seconds us) v)
@@ -39,7 +39,7 @@ pub within_goes : {n : ℕ} {v : Visits} {a b : Left} (has : Bool) (g : ShiftPol
     limit ≡ probe_limit g a.visits
     → g.start ≡ v → g.next_try ≤ n → Within n v a → Spends (rule_of has limit) a b → Within n v b
 within_goes {n} {v} {a} {b} has g limit is start next h k =
-    let most : ℕ = v.probes + (16 * n + 1000) - 2 * left_nodes a in
+    let most : ℕ = v.probes + (probe_factor * n + probe_grace) - 2 * left_nodes a in
     let low : limit + left_nodes a ≤ most =
     omega (arith, is, next, h.left, h.printer, ap (λ (x : Visits). x.probes) start, ap (λ (x : Visits). x.printer) start) in
     let probes : b.visits.probes ≤ most = k.capped most (omega (arith, h.probes)) low in
@@ -52,7 +52,7 @@ within_goes {n} {v} {a} {b} has g limit is start next h k =
     }
 
 -- it is done
-pub within_few : {n : ℕ} {v : Visits} {l : Left} → Within n v l → IsLinearBound 16 1000 n v l.visits
+pub within_few : {n : ℕ} {v : Visits} {l : Left} → Within n v l → IsLinearBound probe_factor probe_grace n v l.visits
 within_few {n} {v} {l} h room = omega (arith, h.probes)
 
 -- what is left over a table visits two nodes for each visit of the printer
@@ -64,7 +64,7 @@ over_table {limit} {a} {w} h small have room =
     omega (arith, k.1, k.2, h.printer, room)
 
 pub within_over : {n : ℕ} {v w : Visits} {a : Left} {limit : ℕ} → Within n v a → Spends (rule_of true limit) a (none_left w)
-    → n ≤ 4294967294 → IsLinearBound 16 1000 n v w
+    → n ≤ 4294967294 → IsLinearBound probe_factor probe_grace n v w
 within_over {n} {v} {w} {a} {limit} h k small room =
     omega (arith, over_table k (omega (arith, h.left, small)) h.have (omega (arith, h.printer, room)), h.probes)
 

@@ -18,6 +18,7 @@ use Rattle.prettyless_printer.specs.declared.buffer.Buffer.{Buffer}
 use Rattle.prettyless_printer.specs.declared.run.Run.{Run}
 use Rattle.prettyless_printer.specs.Points.{Point, Seen, Standing, buffer_seen, point_of, seen_by, standing}
 use Rattle.prettyless_printer.specs.Visits.{suffix_depths}
+use Rattle.prettyless_printer.specs.ShiftPolicy.{probe_factor, probe_grace}
 use Rattle.prettyless_printer.specs.Linear.{IsLinearBound, IsLinear, IsLinearStart}
 use Rattle.prettyless_printer.specs.Open.{Held, all_held, held_of, seconds}
 use Rattle.prettyless_printer.specs.Spending.{Left, Rule, Spends, left}
@@ -111,22 +112,22 @@ module _ {o : RenderOptions} {d : Tree} {p : Standing} (begins : Begins o d p) w
   begins_pays {v} pays free = omega (arith, (pays (begins_free v free)).printer, begins_due v)
 
   pub begins_few_due : {v w : Visits} {n : ℕ} → (unions_due (due p v) ≡ 0 → PaysToEnd (due p v) n w) → IsLinearButSuffixes d → n ≡ 0
-      → IsLinearBound 16 1000 (most_visits d) v w
+      → IsLinearBound probe_factor probe_grace (most_visits d) v w
   begins_few_due {v} {w} pays linear none =
-      subst (λ (k : ℕ). IsLinearBound 16 1000 k v w) (begins_due v)
+      subst (λ (k : ℕ). IsLinearBound probe_factor probe_grace k v w) (begins_due v)
       ((pays (begins_free v linear.unions)).few (begins_linear_due v linear) none)
 
 -- a run to the end, from before a document, is a render
 pub begun_renders : {A E : Type 0} (fails : E → Type 0) {o : RenderOptions} {d : Tree} {a b : Point} (m n : ℕ)
     (r : Result A (RenderError E)) → Begins o d a.printer → RunsToEnd fails a b r →
-    m ≤ n → (IsLinearStart a.printer → n ≡ 0 → IsLinearBound 16 1000 (nodes a.printer.tasks) a.visits b.visits) →
+    m ≤ n → (IsLinearStart a.printer → n ≡ 0 → IsLinearBound probe_factor probe_grace (nodes a.printer.tasks) a.visits b.visits) →
     (unions_due (due a.printer a.visits) ≡ 0 → PaysToEnd (due a.printer a.visits) n b.visits) →
     Renders fails o d a.sink b.sink (record { visits = a.visits; refused = m }) (record { visits = b.visits; refused = n }) r
 begun_renders fails {o} {d} {a} {b} m n r begins ran refused few pays =
     subst (λ (x : RenderOptions). Renders fails x d a.sink b.sink (record { visits = a.visits; refused = m })
     (record { visits = b.visits; refused = n }) r) begins.options
     (renders fails d m n r begins.tasks begins.state ran refused
-    (λ linear none. begins_few 16 1000 a.visits b.visits begins (few (begins_linear begins linear) none)) (begins_pays begins pays)
+    (λ linear none. begins_few probe_factor probe_grace a.visits b.visits begins (few (begins_linear begins linear) none)) (begins_pays begins pays)
     (begins_few_due begins pays))
 
 -- a render that is refused memory before its first node

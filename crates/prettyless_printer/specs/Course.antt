@@ -31,7 +31,7 @@ pub record Around : Type 0 where
   pub refused : ℕ
 
 -- Where a run is, whatever the type of its nodes.
-pub record Place : Type 0 where
+pub record RunPlace : Type 0 where
   -- what is still to be laid, the next task first, and the state before it
   pub tasks : List Task
   pub state : State
@@ -40,7 +40,7 @@ pub record Place : Type 0 where
   pub around : Around
 
 -- a place of these parts
-abbrev pub place : List Task → State → ℕ → Around → Place
+abbrev pub place : List Task → State → ℕ → Around → RunPlace
 place ts st probes u = record { tasks = ts; state = st; probes = probes; around = u }
 
 -- what happens next in a run
@@ -75,10 +75,10 @@ abbrev pub step_next : RenderOptions → Task → List Task → State → Step
 step_next o t ts st = step_of o t.tree t.indent t.mode (follow ts) st
 
 -- a step leads from the tasks after its own to these tasks and this state
-abbrev pub LeadsTo : Step → List Task → List Task → State → Type 0
-LeadsTo (Move b pushed u) ts us v = (us ≡ pushed ++ ts) × (v ≡ u)
-LeadsTo Stuck ts us v = ⊥
-LeadsTo (Choose i x y) ts us v = ⊥
+abbrev pub StepLeadsTo : Step → List Task → List Task → State → Type 0
+StepLeadsTo (Move b pushed u) ts us v = (us ≡ pushed ++ ts) × (v ≡ u)
+StepLeadsTo Stuck ts us v = ⊥
+StepLeadsTo (Choose i x y) ts us v = ⊥
 
 -- the innermost trial, if one is open, has tasks of its own left
 abbrev pub HasOwn : List Waiting → List Task → Type 0
@@ -86,23 +86,23 @@ HasOwn [] ts = Unit {0}
 HasOwn (w ∷ ws) ts = length w.tasks < length ts
 
 -- nothing of it went past the width
-abbrev pub StaysWithin : List Waiting → State → Type 0
-StaysWithin [] st = Unit {0}
-StaysWithin (w ∷ ws) st = st.within ≡ true
+abbrev pub TrialIsWithin : List Waiting → State → Type 0
+TrialIsWithin [] st = Unit {0}
+TrialIsWithin (w ∷ ws) st = st.within ≡ true
 
 -- The next node was visited. Past the width no trial starts a probe.
-pub record Visited (o : RenderOptions) (a b : Place) : Type 0 where
+pub record NodeVisited (o : RenderOptions) (a b : RunPlace) : Type 0 where
   pub task : Task
   pub below : List Task
   pub next : a.tasks ≡ task ∷ below
   pub own : HasOwn a.around.trials a.tasks
-  pub within : 0 < each_probe task.tree task.mode → StaysWithin a.around.trials a.state
-  pub leads : LeadsTo (step_next o task below a.state) below b.tasks b.state
+  pub within : 0 < each_probe task.tree task.mode → TrialIsWithin a.around.trials a.state
+  pub leads : StepLeadsTo (step_next o task below a.state) below b.tasks b.state
   pub asks : Asks a.around.has o task below a.state a.probes b.probes
   pub same : b.around ≡ a.around
 
 -- The next node fails.
-pub record NextFails (o : RenderOptions) (a : Place) : Type 0 where
+pub record NextFails (o : RenderOptions) (a : RunPlace) : Type 0 where
   pub task : Task
   pub below : List Task
   pub next : a.tasks ≡ task ∷ below
@@ -110,19 +110,19 @@ pub record NextFails (o : RenderOptions) (a : Place) : Type 0 where
   pub fails : step_next o task below a.state ≡ Stuck
 
 -- The next node is a union of two branches at an indent, of which the first is to be tried, with these tasks after it.
-pub record NextChooses (o : RenderOptions) (a : Place) (i : ℕ) (x y : Tree) (below : List Task) : Type 0 where
+pub record NextChooses (o : RenderOptions) (a : RunPlace) (i : ℕ) (x y : Tree) (below : List Task) : Type 0 where
   pub task : Task
   pub next : a.tasks ≡ task ∷ below
   pub own : HasOwn a.around.trials a.tasks
-  pub within : StaysWithin a.around.trials a.state
+  pub within : TrialIsWithin a.around.trials a.state
   pub chooses : step_next o task below a.state ≡ Choose i x y
 
 -- a place with these trials open
-abbrev pub with_trials : List Waiting → Place → Place
+abbrev pub with_trials : List Waiting → RunPlace → RunPlace
 with_trials ws a = record a { around = record a.around { trials = ws } }
 
 -- A trial of the first branch began.
-pub record Tried (o : RenderOptions) (a b : Place) : Type 0 where
+pub record Tried (o : RenderOptions) (a b : RunPlace) : Type 0 where
   pub indent : ℕ
   pub first : Tree
   pub second : Tree
@@ -136,7 +136,7 @@ abbrev pub end_fits : RenderOptions → State → Bool
 end_fits o st = padding_fits o.width (some_pending st.pending) st.column
 
 -- The innermost trial is over, and its branch is kept: nothing of it went past the width.
-pub record Kept (o : RenderOptions) (a b : Place) : Type 0 where
+pub record Kept (o : RenderOptions) (a b : RunPlace) : Type 0 where
   pub trial : Waiting
   pub outer : List Waiting
   pub trials : a.around.trials ≡ trial ∷ outer
@@ -146,11 +146,11 @@ pub record Kept (o : RenderOptions) (a b : Place) : Type 0 where
   pub goes : b ≡ place a.tasks (record a.state { within = trial.state.within }) a.probes (record a.around { trials = outer })
 
 -- the branch of the innermost trial is rejected: it fails, it went past the width, or the padding does not fit at its end
-abbrev pub IsRejected : RenderOptions → Waiting → Place → Type 0
+abbrev pub IsRejected : RenderOptions → Waiting → RunPlace → Type 0
 IsRejected o w a = NextFails o a ⊎ ((a.state.within ≡ false) ⊎ ((a.tasks ≡ w.tasks) × (end_fits o a.state ≡ false)))
 
 -- It is undone, and the second branch comes next.
-pub record Undone (o : RenderOptions) (a b : Place) : Type 0 where
+pub record SecondTaken (o : RenderOptions) (a b : RunPlace) : Type 0 where
   pub trial : Waiting
   pub outer : List Waiting
   pub trials : a.around.trials ≡ trial ∷ outer
@@ -158,28 +158,28 @@ pub record Undone (o : RenderOptions) (a b : Place) : Type 0 where
   pub goes : b ≡ place (make_task trial.indent Break trial.second ∷ trial.tasks) trial.state a.probes (record a.around { trials = outer })
 
 -- No task is left, and what is pending at the end comes next.
-pub record FlushedEnd (o : RenderOptions) (a b : Place) : Type 0 where
+pub record FlushedEnd (o : RenderOptions) (a b : RunPlace) : Type 0 where
   pub alone : a.around.trials ≡ []
   pub ended : a.tasks ≡ []
   pub some : some_pending a.state.pending ≡ true
   pub goes : b ≡ place (tasks 0 Break a.state.pending) (flushed o a.state) a.probes a.around
 
 -- one thing happened from a place to another
-abbrev pub Follows : RenderOptions → Event → Place → Place → Type 0
-Follows o Visit a b = Visited o a b
+abbrev pub Follows : RenderOptions → Event → RunPlace → RunPlace → Type 0
+Follows o Visit a b = NodeVisited o a b
 Follows o TryBranch a b = Tried o a b
 Follows o KeepBranch a b = Kept o a b
-Follows o TakeSecond a b = Undone o a b
+Follows o TakeSecond a b = SecondTaken o a b
 Follows o FlushEnd a b = FlushedEnd o a b
 Follows o GoOverTable a b = b ≡ record a { around = record a.around { has = true } }
 Follows o RefuseTable a b = b ≡ record a { around = record a.around { refused = rise a.around.refused } }
 
 -- these things happened from a place to another, one after another
-abbrev pub Course : RenderOptions → List Event → Place → Place → Type 0
+abbrev pub Course : RenderOptions → List Event → RunPlace → RunPlace → Type 0
 Course o [] a b = b ≡ a
-Course o (e ∷ es) a b = (c : Place) × Follows o e a c × Course o es c b
+Course o (e ∷ es) a b = (c : RunPlace) × Follows o e a c × Course o es c b
 
 -- A run has come from a place to another.
-pub record Comes (o : RenderOptions) (a b : Place) : Type 0 where
+pub record Comes (o : RenderOptions) (a b : RunPlace) : Type 0 where
   pub events : List Event
   pub course : Course o events a b

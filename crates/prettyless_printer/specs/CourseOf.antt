@@ -2,6 +2,7 @@
 use Rattle.std.specs.Prelude.{◌≡◌, ℕ, ◌≤◌, ◌<◌, ◌⊎◌, Bool, true, List, [], ◌∷◌, ◌++◌, length, Result, Ok, Err}
 use Rattle.prettyless_model.specs.declared.options.RenderOptions.{RenderOptions}
 use Rattle.prettyless_sink.specs.Sink.{rise}
+use Rattle.prettyless_sink.specs.declared.visits.RenderCost.{RenderCost}
 use Rattle.prettyless_sink.specs.declared.error.RenderError.{RenderError}
 use Rattle.prettyless_sink.specs.declared.error.RenderError.TheVariants.{Document, Sink, Memory}
 use Rattle.prettyless_model.specs.Tree.{Tree, Append, BreakOrFlat, Group, Nest, Text}
@@ -22,40 +23,40 @@ use Rattle.prettyless_printer.specs.Trials.{Trial, make_trial}
 use Rattle.prettyless_printer.specs.Open.{Chain, Held, Open}
 use Rattle.prettyless_printer.specs.Runs.{InChoice, Station}
 use Rattle.prettyless_printer.specs.Course.{Around, AsksInPart, Comes, HasOwn, IsRejected, NextChooses, NextFails}
-use Rattle.prettyless_printer.specs.Course.{Place, StaysWithin, Waiting, place}
+use Rattle.prettyless_printer.specs.Course.{RunPlace, TrialIsWithin, Waiting, place}
 
 -- where a printer stands, as a place
-abbrev pub place_at : Standing → ℕ → Around → Place
+abbrev pub place_at : Standing → ℕ → Around → RunPlace
 place_at p probes u = place p.tasks (state_at p) probes u
 
 -- the same with one task more, the next one
-abbrev pub place_with : Task → Standing → ℕ → Around → Place
+abbrev pub place_with : Task → Standing → ℕ → Around → RunPlace
 place_with t p probes u = place (t ∷ p.tasks) (state_at p) probes u
 
 -- the innermost trial, if one is open, goes on
-abbrev pub GoesOn : Around → List Task → State → Type 0
-GoesOn u ts st = HasOwn u.trials ts × StaysWithin u.trials st
+abbrev pub TrialGoesOn : Around → List Task → State → Type 0
+TrialGoesOn u ts st = HasOwn u.trials ts × TrialIsWithin u.trials st
 
 -- A run has come to a place of some kind, where probes have read so many nodes and so many tables were refused.
-pub record StopsWhere (P : Place → Type 0) (o : RenderOptions) (a : Place) (probes refused : ℕ) : Type 0 where
-  pub at : Place
+pub record StopsWhere (P : RunPlace → Type 0) (o : RenderOptions) (a : RunPlace) (probes refused : ℕ) : Type 0 where
+  pub at : RunPlace
   pub comes : Comes o a at
   pub there : P at
   pub read : at.probes ≡ probes
   pub refusals : at.around.refused ≡ refused
 
 -- The visit of the next node was refused memory.
-pub record NextInPart (o : RenderOptions) (a : Place) (probes : ℕ) : Type 0 where
+pub record NextInPart (o : RenderOptions) (a : RunPlace) (probes : ℕ) : Type 0 where
   pub task : Task
   pub below : List Task
   pub next : a.tasks ≡ task ∷ below
   pub own : HasOwn a.around.trials a.tasks
-  pub within : 0 < each_probe task.tree task.mode → StaysWithin a.around.trials a.state
+  pub within : 0 < each_probe task.tree task.mode → TrialIsWithin a.around.trials a.state
   pub asks : AsksInPart a.around.has o task below a.state a.probes probes
 
 -- A run was refused memory: at a place, or in the visit of the next node.
-pub record StopsInPart (o : RenderOptions) (a : Place) (probes refused : ℕ) : Type 0 where
-  pub at : Place
+pub record StopsInPart (o : RenderOptions) (a : RunPlace) (probes refused : ℕ) : Type 0 where
+  pub at : RunPlace
   pub comes : Comes o a at
   pub part : (probes ≡ at.probes) ⊎ NextInPart o at probes
   pub refusals : at.around.refused ≡ refused
@@ -63,21 +64,21 @@ pub record StopsInPart (o : RenderOptions) (a : Place) (probes refused : ℕ) : 
 -- ---- Turns
 
 -- the next node fails, in these trials
-abbrev pub FailsIn : RenderOptions → Around → Place → Type 0
+abbrev pub FailsIn : RenderOptions → Around → RunPlace → Type 0
 FailsIn o u a = NextFails o a × (a.around ≡ u)
 
 -- wherever it is
-abbrev pub Anywhere : Place → Type 0
+abbrev pub Anywhere : RunPlace → Type 0
 Anywhere a = Unit {0}
 
 -- A union comes next, with a printer's tasks after it.
-pub record ComesToChoice (o : RenderOptions) (a : Place) (u : Around) (i : ℕ) (x y : Tree) (q : Standing) (probes : ℕ) : Type 0 where
+pub record ComesToChoice (o : RenderOptions) (a : RunPlace) (u : Around) (i : ℕ) (x y : Tree) (q : Standing) (probes : ℕ) : Type 0 where
   pub task : Task
   pub comes : Comes o a (place_with task q probes u)
   pub chooses : NextChooses o (place_with task q probes u) i x y q.tasks
 
 -- the course of a turn
-abbrev pub TurnCourse : {N E : Type 0} → (N → Tree) → RenderOptions → Place → Around → Standing → ℕ → Result (TurnResult N) (RenderError E)
+abbrev pub TurnCourse : {N E : Type 0} → (N → Tree) → RenderOptions → RunPlace → Around → Standing → ℕ → Result (TurnResult N) (RenderError E)
     → Type 0
 TurnCourse f o a u q probes (Ok turn_result.Complete) = Comes o a (place_at q probes u)
 TurnCourse f o a u q probes (Ok turn_result.Shift) = Comes o a (place_at q probes u)
@@ -101,11 +102,11 @@ pub record IsIn (w : Waiting) (below : ℕ) (p : Standing) : Type 0 where
   pub stack : p.tasks ≡ above ++ w.tasks
 
 -- the innermost trial is rejected here
-abbrev pub RejectedIn : RenderOptions → Waiting → Around → Place → Type 0
+abbrev pub RejectedIn : RenderOptions → Waiting → Around → RunPlace → Type 0
 RejectedIn o w u a = IsRejected o w a × (a.around ≡ u)
 
 -- the course of a turn of a trial, or of its end
-abbrev pub TrialCourse : {N E : Type 0} → (N → Tree) → RenderOptions → Place → Waiting → Around → Standing → ℕ → Result (TrialState N) E
+abbrev pub TrialCourse : {N E : Type 0} → (N → Tree) → RenderOptions → RunPlace → Waiting → Around → Standing → ℕ → Result (TrialState N) E
     → Type 0
 TrialCourse f o a w u q probes (Ok trial_state.Running) = Comes o a (place_at q probes u)
 TrialCourse f o a w u q probes (Ok trial_state.Complete) = Comes o a (place_at q probes u)
@@ -136,13 +137,13 @@ open_waits s y [] b h = []
 open_waits s y (u ∷ us) b h = chain_waits s us h.trial h.chain (waiting_of s y ∷ [])
 
 -- A run has come from a place to a point in open trials.
-pub record ComesInTrials (o : RenderOptions) (a : Place) (has : Bool) (refused : ℕ) (s : Trial) (y : Tree) (us : List Held) (b : Point)
+pub record ComesInTrials (o : RenderOptions) (a : RunPlace) (has : Bool) (refused : ℕ) (s : Trial) (y : Tree) (us : List Held) (b : Point)
     : Type 0 where
   pub trials : Open s y us b
   pub comes : Comes o a (place_at b.printer b.visits.probes (around (open_waits s y us b trials) has refused))
 
 -- the course of open trials
-abbrev pub TrialsCourse : {E : Type 0} → RenderOptions → Place → Bool → ℕ → Trial → Tree → Point → List Held → Result TrialResult E → Type 0
+abbrev pub TrialsCourse : {E : Type 0} → RenderOptions → RunPlace → Bool → ℕ → Trial → Tree → Point → List Held → Result TrialResult E → Type 0
 TrialsCourse o a has refused s y b us (Ok trial_result.Kept) = Comes o a (place_at b.printer b.visits.probes (around [] has refused))
 TrialsCourse o a has refused s y b us (Ok trial_result.Rejected) = Comes o a (place_at b.printer b.visits.probes (around [] has refused))
 TrialsCourse o a has refused s y b us (Ok trial_result.Shift) = ComesInTrials o a has refused s y us b
@@ -156,12 +157,12 @@ choice_waits i x y a z h =
     open_waits (make_trial (point_at a.printer h.before a.visits) i x) y z.held (point_at z.point.printer z.buffer z.point.visits) h.trials
 
 -- A run has come from a place to a station in a choice.
-pub record ComesInChoice (o : RenderOptions) (b : Place) (has : Bool) (refused i : ℕ) (x y : Tree) (a : Point) (z : Station) : Type 0 where
+pub record ComesInChoice (o : RenderOptions) (b : RunPlace) (has : Bool) (refused i : ℕ) (x y : Tree) (a : Point) (z : Station) : Type 0 where
   pub choice : InChoice i x y a z
   pub comes : Comes o b (place_at z.point.printer z.point.visits.probes (around (choice_waits i x y a z choice) has refused))
 
 -- the course of a run that ended in an error
-abbrev pub ErrorCourse : {E : Type 0} → RenderOptions → Place → ℕ → ℕ → RenderError E → Type 0
+abbrev pub ErrorCourse : {E : Type 0} → RenderOptions → RunPlace → ℕ → ℕ → RenderError E → Type 0
 ErrorCourse o b probes refused (Document e) = StopsWhere (NextFails o) o b probes refused
 ErrorCourse o b probes refused (Sink e) = StopsWhere Anywhere o b probes refused
 ErrorCourse o b probes refused (Memory e) = StopsInPart o b probes refused
@@ -174,11 +175,11 @@ NoneFails (Err (Sink e)) = Unit {0}
 NoneFails (Err (Memory e)) = Unit {0}
 
 -- a run has come from a place to a station outside of trials
-abbrev pub ComesAlone : RenderOptions → Place → Bool → ℕ → Station → Type 0
+abbrev pub ComesAlone : RenderOptions → RunPlace → Bool → ℕ → Station → Type 0
 ComesAlone o b has refused z = Comes o b (place_at z.point.printer z.point.visits.probes (around [] has refused))
 
 -- the course of a choice
-abbrev pub ChoiceCourse : {E : Type 0} → RenderOptions → Place → Bool → ℕ → ℕ → Tree → Tree → Point → Station
+abbrev pub ChoiceCourse : {E : Type 0} → RenderOptions → RunPlace → Bool → ℕ → ℕ → Tree → Tree → Point → Station
     → Result RunResult (RenderError E) → Type 0
 ChoiceCourse o b has refused i x y a z (Ok run_result.Finished) = ComesAlone o b has refused z
 ChoiceCourse o b has refused i x y a z (Ok run_result.Shift) = ComesInChoice o b has refused i x y a z
@@ -199,30 +200,30 @@ WaitWith [] z ws = ws ≡ []
 WaitWith (u ∷ us) z ws = WaitsInChoice z ws
 
 -- A run has come from a place to a station, where these trials wait.
-pub record ComesToStation (o : RenderOptions) (b : Place) (has : Bool) (refused : ℕ) (z : Station) : Type 0 where
+pub record ComesToStation (o : RenderOptions) (b : RunPlace) (has : Bool) (refused : ℕ) (z : Station) : Type 0 where
   pub waiting : List Waiting
   pub are : WaitWith z.held z waiting
   pub comes : Comes o b (place_at z.point.printer z.point.visits.probes (around waiting has refused))
 
 -- the course of a run of commands
-abbrev pub CommandsCourse : {E : Type 0} → RenderOptions → Place → Bool → ℕ → Station → Result RunResult (RenderError E) → Type 0
+abbrev pub CommandsCourse : {E : Type 0} → RenderOptions → RunPlace → Bool → ℕ → Station → Result RunResult (RenderError E) → Type 0
 CommandsCourse o b has refused z (Ok run_result.Finished) = ComesAlone o b has refused z
 CommandsCourse o b has refused z (Ok run_result.Shift) = ComesToStation o b has refused z
 CommandsCourse o b has refused z (Err e) = ErrorCourse o b z.point.visits.probes refused e
 
 -- Nothing is left.
-pub record IsDone (a : Place) : Type 0 where
+pub record IsDone (a : RunPlace) : Type 0 where
   pub tasks : a.tasks ≡ []
   pub pending : a.state.pending ≡ []
   pub alone : a.around.trials ≡ []
 
 -- the course of a run to the end
-abbrev pub EndCourse : {A E : Type 0} → RenderOptions → Place → ℕ → ℕ → Result A (RenderError E) → Type 0
+abbrev pub EndCourse : {A E : Type 0} → RenderOptions → RunPlace → ℕ → ℕ → Result A (RenderError E) → Type 0
 EndCourse o b probes refused (Ok x) = StopsWhere IsDone o b probes refused
 EndCourse o b probes refused (Err e) = ErrorCourse o b probes refused e
 
 -- the same of a run that may stop
-abbrev pub EndCourseOrStop : {E : Type 0} → RenderOptions → Place → Bool → ℕ → Station → Result RunResult (RenderError E) → Type 0
+abbrev pub EndCourseOrStop : {E : Type 0} → RenderOptions → RunPlace → Bool → ℕ → Station → Result RunResult (RenderError E) → Type 0
 EndCourseOrStop o b has refused z (Ok run_result.Finished) = StopsWhere IsDone o b z.point.visits.probes refused
 EndCourseOrStop o b has refused z (Ok run_result.Shift) = ComesToStation o b has refused z
 EndCourseOrStop o b has refused z (Err e) = ErrorCourse o b z.point.visits.probes refused e
@@ -237,21 +238,21 @@ EndCourses has z probes r =
 abbrev pub RefusedOnce : ℕ → ℕ → ℕ → Type 0
 RefusedOnce room old new = (new ≡ old) ⊎ ((0 < room) × (new ≡ rise old))
 
--- the course of a render of a document, over nodes that have summaries or not: from its first node on, with the counts before and after
-abbrev pub RenderCourse : {A E : Type 0} → Bool → RenderOptions → Tree → ℕ → ℕ → ℕ → ℕ → Result A (RenderError E) → Type 0
-RenderCourse has o d old_probes old_refused new_probes new_refused r =
-    EndCourse o (place (make_task 0 Break d ∷ []) initial old_probes (around [] has old_refused)) new_probes new_refused r
+-- the course of a render of a document, over nodes that have summaries or not: from its first node on, with the costs before and after
+abbrev pub RenderCourse : {A E : Type 0} → Bool → RenderOptions → Tree → RenderCost → RenderCost → Result A (RenderError E) → Type 0
+RenderCourse has o d v w r =
+    EndCourse o (place (make_task 0 Break d ∷ []) initial v.visits.probes (around [] has v.refused)) w.visits.probes w.refused r
 
 -- ---- Texts
 
 -- the state after an outcome that is done
-abbrev pub state_after : State → Outcome → State
-state_after st (Done b u) = u
-state_after st (Failed b) = st
+abbrev pub state_then : State → Outcome → State
+state_then st (Done b u) = u
+state_then st (Failed b) = st
 
 -- the state after a document was laid flat that is its texts alone
 abbrev pub after_texts : RenderOptions → Tree → State → State
-after_texts o (Text s) st = state_after st (lay_text o (length s) s st)
+after_texts o (Text s) st = state_then st (lay_text o (length s) s st)
 after_texts o (Append l r) st = after_texts o r (after_texts o l st)
 after_texts o (Nest k d) st = after_texts o d st
 after_texts o (BreakOrFlat b f) st = after_texts o f st

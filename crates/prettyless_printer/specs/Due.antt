@@ -116,4 +116,4 @@ IsLinearDue a = DueHasSummaries a × (visits_due a ≤ 4294967294)
 pub record PaysToEnd (a : Due) (refused : ℕ) (w : Visits) : Type 0 where
   pub printer : w.printer ≤ a.visits.printer + visits_due a
   -- where a table bounds the probes, they visit at most sixteen nodes for each visit of the printer that was due, and a thousand
-  pub few : IsLinearDue a → refused ≡ 0 → IsLinearBound 16 1000 (visits_due a) a.visits w
+  pub few : IsLinearDue a → refused ≡ 0 → IsLinearBound probe_factor probe_grace (visits_due a) a.visits w

@@ -19,6 +19,7 @@ use Rattle.prettyless_printer.specs.Points.{Standing, state_at, Seen, Point, poi
 use Rattle.prettyless_printer.specs.Visits.{CountsAtMost, Plain, Rise, RunCountsAtMost, Visited}
 use Rattle.prettyless_printer.specs.AtLeast.{CountsAtLeast, VisitedAtLeast, nothing_left, stack_tally}
 use Rattle.prettyless_printer.specs.Suffixes.{IsLinearButSuffixes, most_visits, unions}
+use Rattle.prettyless_printer.specs.ShiftPolicy.{probe_factor, probe_grace}
 use Rattle.prettyless_printer.specs.Linear.{IsLinearBound, IsLinear}
 use Rattle.prettyless_printer.specs.Turns.{bytes_before}
 
@@ -155,12 +156,12 @@ pub record Renders {A E : Type 0} (fails : E → Type 0) (o : RenderOptions) (d 
   -- refusals of memory for a table are counted
   pub refused : v.refused ≤ w.refused
   -- where a table bounds the probes, and none was refused memory, they visit at most sixteen nodes for each node, and a thousand
-  pub few : IsLinear d → w.refused ≡ 0 → IsLinearBound 16 1000 (size d) v.visits w.visits
+  pub few : IsLinear d → w.refused ≡ 0 → IsLinearBound probe_factor probe_grace (size d) v.visits w.visits
   -- without unions, the printer visits each node once at most, and once more, for each line suffix, the break before which it is laid
   pub with_suffixes : unions d ≡ 0 → w.visits.printer ≤ v.visits.printer + most_visits d
   -- where a table bounds the probes too, and none was refused memory, they visit at most sixteen nodes for each of these visits of the
   -- printer, and a thousand
-  pub few_with_suffixes : IsLinearButSuffixes d → w.refused ≡ 0 → IsLinearBound 16 1000 (most_visits d) v.visits w.visits
+  pub few_with_suffixes : IsLinearButSuffixes d → w.refused ≡ 0 → IsLinearBound probe_factor probe_grace (most_visits d) v.visits w.visits
   -- on success, at least the nodes that the layout lays are counted, and the probes that it needs
   pub at_least : OnOk r (VisitedAtLeast o d v.visits w.visits)
 

@@ -4,6 +4,7 @@ ghost use Rattle.prettyless_model.specs.Tree.{size};
 ghost use Rattle.prettyless_probe.specs.Sums.{IsSummed};
 ghost use Rattle.prettyless_printer.specs.Points.{seen, standing};
 ghost use Rattle.prettyless_printer.specs.Renders.{Begins, Renders};
+ghost use Rattle.prettyless_printer.specs.CourseOf.{RenderCourse};
 ghost use Rattle.prettyless_printer.specs.Linear.{BoundedByTable, IsLinear, IsLinearBound};
 
 use crate::buffer::Buffer;
@@ -66,6 +67,7 @@ fn render_with_room<N: Walk, W: Render>(
     ensures renders { Renders (W.document_errors out.new) options (N.tree node)
         (seen W.bytes W.failures W.lender out.old) (seen W.bytes W.failures W.lender out.new)
         cost.old cost.new result }
+    ensures course { RenderCourse N.HAS_SUMMARIES options (N.tree node) cost.old cost.new result }
     ensures twice { IsLinear (N.tree node) → size (N.tree node) ≤ room → cost.new.refused ≡ 0
         → IsLinearBound 2 0 (size (N.tree node)) cost.old.visits cost.new.visits }
 {
@@ -104,9 +106,10 @@ pub fn render<N: Walk, W: Render>(
     out: &mut W,
     cost: &mut RenderCost,
 ) -> Result<(), RenderError<W::Error>>
-    ensures { Renders (W.document_errors out.new) options (N.tree node)
+    ensures renders { Renders (W.document_errors out.new) options (N.tree node)
         (seen W.bytes W.failures W.lender out.old) (seen W.bytes W.failures W.lender out.new)
         cost.old cost.new result }
+    ensures course { RenderCourse N.HAS_SUMMARIES options (N.tree node) cost.old cost.new result }
 {
     render_with_room(alloc, node, options, out, cost, 0)
 }
@@ -125,6 +128,7 @@ pub fn render_over_table<N: Walk, W: Render>(
     ensures renders { Renders (W.document_errors out.new) options (N.tree node)
         (seen W.bytes W.failures W.lender out.old) (seen W.bytes W.failures W.lender out.new)
         cost.old cost.new result }
+    ensures course { RenderCourse N.HAS_SUMMARIES options (N.tree node) cost.old cost.new result }
     ensures twice { BoundedByTable (N.tree node) cost.new.refused cost.old.visits cost.new.visits }
 {
     render_with_room(alloc, node, options, out, cost, ROOM_AT_FIRST)

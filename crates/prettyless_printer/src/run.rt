@@ -7,7 +7,7 @@ ghost use Rattle.prettyless_probe.specs.Sums.{IsSummed};
 ghost use Rattle.prettyless_printer.specs.Points.{Point, point_of, seen_by, standing};
 ghost use Rattle.prettyless_printer.specs.Renders.{FlushesEnd, RunsToEnd};
 ghost use Rattle.prettyless_printer.specs.Open.{held_of};
-ghost use Rattle.prettyless_printer.specs.Course.{Place, Waiting};
+ghost use Rattle.prettyless_printer.specs.Course.{RunPlace, Waiting};
 ghost use Rattle.prettyless_printer.specs.CourseOf.{ChoiceCourse, ComesToChoice, CommandsCourse, EndCourse, EndCourseOrStop, NoneFails};
 ghost use Rattle.prettyless_printer.specs.CourseOf.{WaitWith, around, choice_waits, place_at};
 ghost use Rattle.prettyless_printer.specs.Visits.{Plain};
@@ -116,7 +116,7 @@ impl<N: Walk> Run<N> {
             → SpendsAs (rule_of N.HAS_SUMMARIES limit)
             (left_choice choice.indent (N.tree choice.first) (N.tree choice.second) (standing N.tree self.old.printer) self.old.visits)
             (left_of N.tree self.new) result }
-        ensures course { (b : Place) (refused : ℕ) → ComesToChoice self.old.printer.options b (around [] N.HAS_SUMMARIES refused)
+        ensures course { (b : RunPlace) (refused : ℕ) → ComesToChoice self.old.printer.options b (around [] N.HAS_SUMMARIES refused)
             choice.indent (N.tree choice.first) (N.tree choice.second) (standing N.tree self.old.printer) self.old.visits.probes
             → ChoiceCourse self.old.printer.options b N.HAS_SUMMARIES refused choice.indent (N.tree choice.first) (N.tree choice.second)
             (point_of N.tree self.old (seen_by W.Render out.old)) (station_of N.tree self.new (seen_by W.Render out.new)) result }

@@ -11,6 +11,7 @@ ghost use Rattle.prettyless_printer.specs.Points.{Point, point_of, seen_by, stan
 ghost use Rattle.prettyless_printer.specs.Open.{all_held, run_documents, run_nodes, seconds};
 ghost use Rattle.prettyless_printer.specs.Renders.{EndsAnywhere};
 ghost use Rattle.prettyless_printer.specs.Runs.{RunReaches, station_of};
+ghost use Rattle.prettyless_printer.specs.ShiftPolicy.{probe_factor, probe_grace};
 ghost use Rattle.prettyless_printer.specs.Linear.{IsLinearBound, IsLinearStart};
 ghost use Rattle.prettyless_printer.specs.Spending.{EndsOverTable, left_of};
 ghost use Rattle.prettyless_printer.specs.CourseOf.{EndCourse, EndCourses, RefusedOnce, around, place_at};
@@ -194,7 +195,7 @@ impl<N: Walk> Run<N> {
             self.new.visits.probes refused.new result }
         ensures rises { refused.old ≤ refused.new }
         ensures few { IsLinearStart (standing N.tree self.old.printer) → refused.new ≡ 0
-            → IsLinearBound 16 1000 (nodes (tasks_of N.tree self.old.printer)) self.old.visits self.new.visits }
+            → IsLinearBound probe_factor probe_grace (nodes (tasks_of N.tree self.old.printer)) self.old.visits self.new.visits }
         ensures twice { IsLinearStart (standing N.tree self.old.printer) → refused.new ≡ 0 → 0 < room_at_first
             → nodes (tasks_of N.tree self.old.printer) ≤ room_at_first
             → IsLinearBound 2 0 (nodes (tasks_of N.tree self.old.printer)) self.old.visits self.new.visits }

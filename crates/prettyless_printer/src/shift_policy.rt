@@ -4,16 +4,16 @@ ghost use Rattle.std.specs.Prelude.{◌≡◌, ◌≤◌};
 
 use prettyless_sink::visits::Visits;
 
-/// Probes may visit so many times as many nodes as the printer. A node of a table costs about a dozen visits.
+/// Probes may visit so many times as many nodes as the printer (`probe_factor`). A node of a table costs about a dozen visits.
 const FACTOR: u64 = 16;
 
-/// And so many more.
+/// And so many more (`probe_grace`).
 const GRACE: u64 = 1000;
 
 /// A table may have so many times as many nodes as were visited before it.
 const ROOM: u64 = 4;
 
-/// A table that is made before the first node may have so many. Its cells take 40 MiB at most.
+/// A table that is made before the first node may have so many. Its cells take 32 MiB at most.
 pub(crate) const ROOM_AT_FIRST: u64 = 1_048_576;
 
 /// What a render has to know to shift.

@@ -5,7 +5,7 @@ ghost use Rattle.prettyless_step.specs.Printing.{tasks_of};
 ghost use Rattle.prettyless_probe.specs.Sums.{IsSummed};
 ghost use Rattle.prettyless_printer.specs.Points.{point, seen, standing, state_at};
 ghost use Rattle.prettyless_printer.specs.Course.{Around};
-ghost use Rattle.prettyless_printer.specs.CourseOf.{GoesOn, TurnCourse, place_at};
+ghost use Rattle.prettyless_printer.specs.CourseOf.{TrialGoesOn, TurnCourse, place_at};
 ghost use Rattle.prettyless_printer.specs.Visits.{Plain, visited_more};
 ghost use Rattle.prettyless_printer.specs.Spending.{Spends, after_turn, left, rule_of};
 ghost use Rattle.prettyless_printer.specs.Due.{PaysTurn, StartStaysBy, due, unions_due};
@@ -56,7 +56,7 @@ pub fn turn<N: Walk, W: Render>(
         (left (standing N.tree printer.old) [] visits.old)
         (after_turn N.tree (standing N.tree printer.new) visits.new result) }
     ensures course { (u : Around) → u.has ≡ N.HAS_SUMMARIES
-        → GoesOn u (tasks_of N.tree printer.old) (state_at (standing N.tree printer.old))
+        → TrialGoesOn u (tasks_of N.tree printer.old) (state_at (standing N.tree printer.old))
         → TurnCourse N.tree printer.old.options (place_at (standing N.tree printer.old) visits.old.probes u) u
         (standing N.tree printer.new) visits.new.probes result }
     ensures pays { unions_due (due (standing N.tree printer.old) visits.old) ≡ 0 → PaysTurn

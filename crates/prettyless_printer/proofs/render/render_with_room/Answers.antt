@@ -5,6 +5,8 @@ use Rattle.prettyless_probe.proofs.Sizes.{size_positive}
 use Rattle.prettyless_printer.specs.Points.{seen_by}
 use Rattle.prettyless_printer.specs.Linear.{IsLinearBound}
 use Rattle.prettyless_printer.specs.Renders.{Renders}
+use Rattle.prettyless_printer.proofs.Courses.{come_same, refused_here}
+use Rattle.prettyless_printer.proofs.RunCourses.{begun_course}
 use Rattle.prettyless_printer.proofs.Shifted.{begins_few, begins_linear, begins_small, begun_renders, refused_renders}
 use Rattle.prettyless_printer.proofs.render.render_with_room.Goals as goal
 
@@ -35,3 +37,13 @@ pub returns-in-Err-clause-renders : goal.returns-in-Err-clause-renders
 returns-in-Err-clause-renders g c =
     refused_renders (g.W.Render.document_errors c.args.out.now) c.args.options (g.N.Walk.tree c.args.node)
     (seen_by g.W.Render c.args.out.now) c.args.cost.now _
+
+-- from its first node on, it goes along its course
+pub returns-in-Ok-clause-course : goal.returns-in-Ok-clause-course
+returns-in-Ok-clause-course g c =
+    let ran = c.run_with_shift-result in
+    begun_course g.N.Walk.HAS_SUMMARIES c.args.cost.now (record { visits = ran.new.self.visits; refused = ran.new.refused }) ran.result
+    c.in-Ok.ensures.begins (ap (λ (v : Visits). v.probes) c.in-Ok.ensures.visits) ran.ensures.course
+
+pub returns-in-Err-clause-course : goal.returns-in-Err-clause-course
+returns-in-Err-clause-course g c = refused_here (come_same _ _)

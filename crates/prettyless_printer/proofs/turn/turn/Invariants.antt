@@ -5,7 +5,7 @@ use Rattle.prettyless_probe.specs.Sums.{IsSummed}
 use Rattle.prettyless_step.specs.Printing.{state_of, tasks_of}
 use Rattle.prettyless_printer.specs.Points.{point, seen, standing, state_at}
 use Rattle.prettyless_printer.specs.Course.{Around}
-use Rattle.prettyless_printer.specs.CourseOf.{GoesOn, place_at}
+use Rattle.prettyless_printer.specs.CourseOf.{TrialGoesOn, place_at}
 use Rattle.prettyless_printer.specs.Visits.{Plain, visited_more}
 use Rattle.prettyless_printer.specs.Spending.{Spends, left, rule_of}
 use Rattle.prettyless_printer.proofs.Courses.{InCourse}
@@ -27,7 +27,7 @@ invariant-down g l =
           (left (standing f l.fn.printer) [] l.fn.visits)
           (left_with (make_task l.indent l.mode (f l.node)) (standing f l.printer) (visited_more l.count l.visits));
       course : (u : Around) → u.has ≡ g.N.Walk.HAS_SUMMARIES
-          → GoesOn u (tasks_of f l.fn.printer) (state_at (standing f l.fn.printer))
+          → TrialGoesOn u (tasks_of f l.fn.printer) (state_at (standing f l.fn.printer))
           → InCourse l.fn.printer.options (place_at (standing f l.fn.printer) l.fn.visits.probes u) u
           (make_task l.indent l.mode (f l.node)) (standing f l.printer) l.visits.probes;
       pays : unions_due (due (standing f l.fn.printer) l.fn.visits) ≡ 0 → Pays (rule_of g.N.Walk.HAS_SUMMARIES l.limit)

@@ -9,4 +9,5 @@ returns-clause-counts g c = record {
   refused = c.render_over_table-result.new.cost.refused;
   counts = counts_visits c.render_over_table-result.ensures.renders;
   twice = c.render_over_table-result.ensures.twice;
+  course = c.render_over_table-result.ensures.course;
 }

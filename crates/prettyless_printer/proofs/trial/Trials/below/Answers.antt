@@ -1,6 +1,3 @@
-use Rattle.prettyless_printer.proofs.RunCourses.{error_after}
-use Rattle.prettyless_printer.proofs.OpenCourses.{open_options}
-use Rattle.prettyless_printer.proofs.Courses.{come_same}
 use Rattle.std.proofs.Common.{◌∙◌, ap, arith}
 use Rattle.prettyless_printer.specs.declared.trial.OpenTrial.{OpenTrial}
 use Rattle.prettyless_printer.proofs.Chains.{below_index}
