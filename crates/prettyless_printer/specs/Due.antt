@@ -9,6 +9,7 @@ use Rattle.prettyless_probe.specs.Stack.{Task}
 use Rattle.prettyless_probe.specs.Sums.{HaveSummaries, TreesHaveSummaries}
 use Rattle.prettyless_printer.specs.Points.{Standing, standing, state_at}
 use Rattle.prettyless_printer.specs.Spending.{Capped, Rule, TwoEach, rule_of}
+use Rattle.prettyless_printer.specs.ShiftPolicy.{probe_factor, probe_grace}
 use Rattle.prettyless_printer.specs.Linear.{IsLinearBound}
 use Rattle.prettyless_printer.specs.Suffixes.{most_visits, unions}
 use Rattle.prettyless_printer.specs.declared.run.Run.{Run}
