@@ -56,7 +56,8 @@ without_noted : (side : Side) (x : EnclosedTracing) (y : Tracing) → without_en
 without_noted side x y e = without_after (enclosed_alone (Alternative side) ∷ []) x ∙ ap (noted_choice side) e
 
 without_either : (t : Bool) (x y : EnclosedTracing) (z w : Tracing) → without_enclosures x ≡ z → without_enclosures y ≡ w
-    → without_enclosures (if t then enclosed_choice First x else enclosed_choice Second y) ≡ (if t then noted_choice First z else noted_choice Second w)
+    → without_enclosures (if t then enclosed_choice First x else enclosed_choice Second y) ≡ (if t then noted_choice First z else
+    noted_choice Second w)
 without_either true x y z w e f = without_noted First x z e
 without_either false x y z w e f = without_noted Second y w f
 

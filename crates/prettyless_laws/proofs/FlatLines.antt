@@ -41,7 +41,8 @@ none_pending [] e = refl
 none_pending (p ∷ ps) e = absurd (cc)
 
 -- a look that goes on by a test, or answers no
-pub only_on : (t : Bool) (c : Column) (p : Bool) (next : Column → Bool → Bool) → answer_of (if t then GoesOn c p else Answers false) next ≡ true
+pub only_on : (t : Bool) (c : Column) (p : Bool) (next : Column → Bool → Bool) → answer_of (if t then GoesOn c p else Answers false)
+    next ≡ true
     → (t ≡ true) × (next c p ≡ true)
 only_on true c p next e = (refl, e)
 only_on false c p next e = absurd (cc)

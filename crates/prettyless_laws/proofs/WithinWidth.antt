@@ -61,7 +61,8 @@ each_one : (P : Enclosed → Type 0) → ((p : Piece) → P (enclosed_alone p)) 
     → Each P (after_enclosed (enclosed_alone p ∷ []) x)
 each_one P f p x h = each_after P (enclosed_alone p ∷ []) x (All-cons P (enclosed_alone p) [] (f p) (All-nil P)) h
 
-each_either : (P : Enclosed → Type 0) → ((p : Piece) → P (enclosed_alone p)) → (t : Bool) (x y : EnclosedTracing) → (t ≡ true → Each P x) → Each P y
+each_either : (P : Enclosed → Type 0) → ((p : Piece) → P (enclosed_alone p)) → (t : Bool) (x y : EnclosedTracing) → (t ≡ true
+    → Each P x) → Each P y
     → Each P (if t then enclosed_choice First x else enclosed_choice Second y)
 each_either P f true x y h k = each_one P f (Alternative First) x (h refl)
 each_either P f false x y h k = each_one P f (Alternative Second) y k

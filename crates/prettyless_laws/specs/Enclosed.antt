@@ -96,7 +96,8 @@ enclosed_at o brk (t.Flatten d) i m rest st = laid_in Flattened (enclosed_at o b
 enclosed_at o brk (t.BreakOrFlat b f) i m rest st = by_mode m (enclosed_at o brk b i m rest st) (enclosed_at o brk f i m rest st)
 enclosed_at o brk (t.Group d) i m rest st =
     by_mode m
-    (if probe o d i Flat rest st then enclosed_choice First (laid_in FlatGroup (enclosed_at o brk d i Flat rest st)) else enclosed_choice Second
+    (if probe o d i Flat rest st then enclosed_choice First (laid_in FlatGroup (enclosed_at o brk d i Flat rest st))
+    else enclosed_choice Second
     (laid_in BrokenGroup (enclosed_at o brk d i Break rest st)))
     (laid_in FlatGroup (enclosed_at o brk d i Flat rest st))
 enclosed_at o brk (t.Union l r) i m rest st =

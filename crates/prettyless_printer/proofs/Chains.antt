@@ -30,7 +30,8 @@ use Rattle.prettyless_printer.proofs.Visits.{rise_then, at_most_first, at_most_t
 -- ---- Trials in one another
 
 -- a trial more is open
-unfoldable pub chain_push : (o : Trial) (us : List Held) (t : Trial) (u : Held) (c : Trial) → Chain o us t → Link t u c → Chain o (us ++ u ∷ []) c
+unfoldable pub chain_push : (o : Trial) (us : List Held) (t : Trial) (u : Held) (c : Trial) → Chain o us t → Link t u c
+    → Chain o (us ++ u ∷ []) c
 chain_push o [] t u c h link = (c, subst (λ (x : Trial). Link x u c) h link, refl)
 chain_push o (v ∷ us) t u c h link = (h.0, h.1, chain_push h.0 us t u c h.2 link)
 
@@ -99,7 +100,8 @@ on_begun {a} {i} {d} {q} marked begins = record {
 }
 
 -- the outermost one begins
-unfoldable pub open_begins : {a : Point} {m : Mark} {i : ℕ} {x : Tree} {q : Standing} (y : Tree) → Marked m a → BeginsTrial i x a.printer q →
+unfoldable pub open_begins : {a : Point} {m : Mark} {i : ℕ} {x : Tree} {q : Standing} (y : Tree) → Marked m a
+    → BeginsTrial i x a.printer q →
     Open (make_trial a i x) y (record { mark = m; indent = i; second = y } ∷ []) (point_at q a.sink a.visits)
 open_begins {a} {i} {x} y marked begins = record {
   holds = record { indent = refl; second = refl; marked = marked };
@@ -201,7 +203,8 @@ kept_last {E} {b} {u} {r} h kept =
     (kept_branch marked (h.courses k.trial k.on).0 kept)
 
 -- an inner one is kept
-unfoldable pub kept_inner : {N E : Type 0} {f : N → Tree} {s : Trial} {y : Tree} {a b : Point} {r : Standing} (v : Held) (vs : List Held) (u : Held)
+unfoldable pub kept_inner : {N E : Type 0} {f : N → Tree} {s : Trial} {y : Tree} {a b : Point} {r : Standing} (v : Held) (vs : List Held)
+    (u : Held)
     → Took {E = E} f s y (v ∷ vs ++ u ∷ []) a b (Ok trial_state.Complete) → Flagged u.mark.within b.printer r →
     Open s y (v ∷ vs) (point_at r b.sink b.visits)
 kept_inner {E} {s} {b} {r} v vs u h kept =
@@ -261,7 +264,8 @@ back_last {E} {s} {b} {u} r h back cut pushed =
     }
 
 -- an inner one is undone
-unfoldable pub back_inner : {N E : Type 0} {f : N → Tree} {s : Trial} {y : Tree} {a b : Point} {q : Standing} {w : Seen} (v : Held) (vs : List Held)
+unfoldable pub back_inner : {N E : Type 0} {f : N → Tree} {s : Trial} {y : Tree} {a b : Point} {q : Standing} {w : Seen} (v : Held)
+    (vs : List Held)
     (u : Held) (r : Standing) → Took {E = E} f s y (v ∷ vs ++ u ∷ []) a b (Ok trial_state.Rejected) → Restores u.mark b.printer r
     → CutBack u.mark b.sink w → Pushed (make_task u.indent Break u.second) r q → Open s y (v ∷ vs) (point_at q w b.visits)
 back_inner {E} {s} {b} {q} {w} v vs u r h back cut pushed =

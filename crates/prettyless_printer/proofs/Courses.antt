@@ -1,12 +1,12 @@
 -- The course of a run: what happens one after another, and how a turn goes along it.
-use Rattle.std.proofs.Common.{◌≡◌, ℕ, ◌+◌, ◌≤◌, ◌<◌, Bool, List, [], ◌∷◌, ◌++◌, length, refl, ap, sym, ◌∙◌, arith, subst, inl, inr}
+use Rattle.std.proofs.Common.{◌≡◌, ℕ, ◌+◌, ◌≤◌, ◌<◌, Bool, List, [], ◌∷◌, ◌++◌, length, refl, sym, arith, subst, inl, inr}
 use Rattle.prettyless_model.specs.declared.options.RenderOptions.{RenderOptions}
 use Rattle.prettyless_model.specs.declared.mode.Mode.{Mode}
-use Rattle.prettyless_model.specs.declared.mode.Mode.TheVariants.{Break, Flat}
+use Rattle.prettyless_model.specs.declared.mode.Mode.TheVariants.{Flat}
 use Rattle.prettyless_model.specs.Tree.{Tree, Append, BreakOrFlat, Group, Nest, Nil, PartialUnion, Text}
 use Rattle.prettyless_model.specs.Column.{nested}
 use Rattle.prettyless_model.specs.Counts.{each_probe}
-use Rattle.prettyless_model.specs.Layout.{State, in_trial}
+use Rattle.prettyless_model.specs.Layout.{State}
 use Rattle.prettyless_probe.specs.Probing.{asked}
 use Rattle.prettyless_probe.specs.Reads.{IsFew, RisesTo}
 use Rattle.prettyless_probe.specs.Stack.{Task, make_task, nodes}
@@ -17,7 +17,7 @@ use Rattle.prettyless_step.specs.Printing.{state_of, tasks_of}
 use Rattle.prettyless_step.specs.declared.printer.Printer.{Printer}
 use Rattle.prettyless_step.proofs.Shown.{IsChoice, IsStuck, StepsTo, step_at}
 use Rattle.prettyless_printer.specs.Points.{Standing, standing, state_at}
-use Rattle.prettyless_printer.specs.Course.{Around, Asks, AsksInPart, Comes, Course, Event, Follows, HasOwn, StepLeadsTo, NextChooses, NextFails}
+use Rattle.prettyless_printer.specs.Course.{Around, Asks, AsksInPart, Comes, Course, Event, Follows, HasOwn, StepLeadsTo}
 use Rattle.prettyless_printer.specs.Course.{RunPlace, TrialIsWithin, Visit, Waiting, place}
 use Rattle.prettyless_printer.specs.CourseOf.{ComesToChoice, TrialGoesOn, StopsInPart, StopsWhere, Anywhere, FailsIn, after_texts}
 use Rattle.prettyless_printer.specs.CourseOf.{place_at, place_with}
@@ -78,7 +78,8 @@ choose_is Stuck i x y h = absurd h
 choose_is (Choose j v w) i x y h = λ k. Choose (sym h.0 k) (sym h.1 k) (sym h.2 k)
 
 -- a node that fails, or is a choice, needs no probe
-stuck_asks : (o : RenderOptions) (d : Tree) (i : ℕ) (m : Mode) (ts : List Task) (st : State) (k : ℕ) → IsStuck (step_at o (make_task i m d) ts st)
+stuck_asks : (o : RenderOptions) (d : Tree) (i : ℕ) (m : Mode) (ts : List Task) (st : State) (k : ℕ)
+    → IsStuck (step_at o (make_task i m d) ts st)
     → asked d m k ≡ 0
 stuck_asks o (Group d) i m ts st k h = absurd h
 stuck_asks o (PartialUnion l r) i m ts st k h = absurd h
@@ -147,7 +148,8 @@ course_steps {o} {a} {u} {t} {p} {m} {n} {has} bytes {us} {v} h same asks steps 
     }))
 
 -- to the next node
-pub course_down : {o : RenderOptions} {a : RunPlace} {u : Around} {t s : Task} {p q : Standing} {m n : ℕ} {has : Bool} → InCourse o a u t p m
+pub course_down : {o : RenderOptions} {a : RunPlace} {u : Around} {t s : Task} {p q : Standing} {m n : ℕ} {has : Bool}
+    → InCourse o a u t p m
     → u.has ≡ has → Asks has o t p.tasks (state_at p) m n → Descended s (step_from o t p) p q → InCourse o a u s q n
 course_down {u = u} {t = t} {s = s} {p = p} {q = q} h same asks down = record {
   comes = course_steps [] h same asks down.steps_to;

@@ -615,7 +615,8 @@ pub left_after : {first : Tree} {b : Point} {ds : List Tree} {w : Bool} {g posit
     → q ≡ laid_to b.printer w position → Laid first b ds w g position sink count
     → state_at q ≡ after_texts b.printer.options first (state_at b.printer)
 left_after {b = b} {w = w} {position = position} q none stands h =
-    ap state_at stands ∙ sym (ap (λ (z : List Tree). after_all b.printer.options z (state_at (laid_to b.printer w position))) none) ∙ h.after
+    ap state_at stands ∙ sym (ap (λ (z : List Tree). after_all b.printer.options z (state_at (laid_to b.printer w position))) none)
+    ∙ h.after
 
 -- ---- Lists of nodes, and memory for them
 

@@ -1,6 +1,6 @@
 -- The course of a run outside of trials and in choices.
-use Rattle.std.proofs.Common.{◌≡◌, ℕ, ◌+◌, ◌≤◌, ◌<◌, Bool, true, List, [], ◌∷◌, ◌++◌, length, refl, ap, sym, ◌∙◌, arith, subst, inl, inr}
-use Rattle.std.proofs.Common.{Result, Ok, Err, IsErr}
+use Rattle.std.proofs.Common.{◌≡◌, ℕ, ◌+◌, ◌<◌, Bool, true, List, [], ◌∷◌, ◌++◌, length, refl, ap, sym, ◌∙◌, arith, subst, inl, inr}
+use Rattle.std.proofs.Common.{Result, Ok, Err}
 use Rattle.std.specs.String.{string_bytes}
 use Rattle.std.proofs.lemmas.Str.{IsUtf8-string_bytes}
 use Rattle.prettyless_sink.specs.declared.error.RenderError.{RenderError}
@@ -8,15 +8,15 @@ use Rattle.prettyless_sink.specs.declared.error.RenderError.TheVariants.{Documen
 use Rattle.prettyless_model.specs.declared.options.RenderOptions.{RenderOptions}
 use Rattle.prettyless_model.specs.declared.mode.Mode.TheVariants.{Break}
 use Rattle.prettyless_model.specs.Tree.{Tree}
-use Rattle.prettyless_model.specs.Layout.{State, flushed, initial, some_pending}
-use Rattle.prettyless_probe.specs.Stack.{Task, make_task, tasks}
-use Rattle.prettyless_printer.specs.declared.answer.Choice.{Choice}
+use Rattle.prettyless_model.specs.Layout.{flushed, initial, some_pending}
+use Rattle.prettyless_probe.specs.Stack.{make_task, tasks}
 use Rattle.prettyless_printer.specs.declared.answer.RunResult.{RunResult}
 use Rattle.prettyless_printer.specs.declared.answer.RunResult.TheVariants as run_result
 use Rattle.prettyless_printer.specs.declared.run.Run.{Run}
 use Rattle.prettyless_sink.specs.declared.render.Render.{Ghosts}
 use Rattle.prettyless_sink.specs.declared.visits.RenderCost.{RenderCost}
-use Rattle.prettyless_printer.specs.Points.{Point, Seen, Standing, buffer_seen, point_at, point_of, seen_by, standing, state_at, trial_point}
+use Rattle.prettyless_printer.specs.Points.{Point, Seen, Standing, buffer_seen, point_at, point_of, seen_by, standing, state_at}
+use Rattle.prettyless_printer.specs.Points.{trial_point}
 use Rattle.prettyless_printer.specs.Trials.{make_trial}
 use Rattle.prettyless_printer.specs.Open.{BeginsTrial, Held, Open, Opens, held_of}
 use Rattle.prettyless_printer.specs.Paths.{Chooses, run_of}
@@ -24,7 +24,8 @@ use Rattle.prettyless_printer.specs.Renders.{Begins}
 use Rattle.prettyless_printer.specs.Runs.{InChoice, ReachesWith, RunReaches, RunReachesChoice, Station, station_at, station_of}
 use Rattle.prettyless_printer.specs.Course.{Around, Comes, FlushEnd, GoOverTable, NextFails, RunPlace, RefuseTable, Waiting, place}
 use Rattle.prettyless_printer.specs.CourseOf.{ChoiceCourse, ComesAlone, ComesInChoice, ComesInTrials, ComesToChoice, ComesToStation}
-use Rattle.prettyless_printer.specs.CourseOf.{EndCourse, EndCourses, EndCourseOrStop, RefusedOnce, RenderCourse, ErrorCourse, FailsIn, IsDone, NoneFails, StopsInPart}
+use Rattle.prettyless_printer.specs.CourseOf.{EndCourse, EndCourses, EndCourseOrStop, RefusedOnce, RenderCourse, ErrorCourse, FailsIn}
+use Rattle.prettyless_printer.specs.CourseOf.{IsDone, NoneFails}
 use Rattle.prettyless_printer.specs.CourseOf.{TrialGoesOn, StopsWhere, TurnCourse, WaitWith, WaitsInChoice, around, choice_waits, place_at}
 use Rattle.prettyless_step.specs.Printing.{tasks_of}
 use Rattle.prettyless_step.specs.declared.printer.Printer.{Printer}
@@ -62,7 +63,8 @@ fails_alone h = record { at = h.at; comes = h.comes; there = h.there.0; read = h
 -- ---- Choices
 
 -- the trials of a choice are still open
-pub in_choice : {o : RenderOptions} {b : RunPlace} {has : Bool} {refused i : ℕ} {x y : Tree} {a : Point} {w : Station} (z : Station) (h : InChoice i x y a w)
+pub in_choice : {o : RenderOptions} {b : RunPlace} {has : Bool} {refused i : ℕ} {x y : Tree} {a : Point} {w : Station} (z : Station)
+    (h : InChoice i x y a w)
     → z.point.sink ≡ a.sink
     → ComesInTrials o b has refused (make_trial (point_at a.printer h.before a.visits) i x) y z.held
     (point_at z.point.printer z.buffer z.point.visits) → ComesInChoice o b has refused i x y a z
@@ -135,7 +137,8 @@ station_in_choice {i = i} {x} {y} {a} z h = record {
 
 -- ---- To the end
 
-pub end_after : {E : Type 0} {o : RenderOptions} {b c : RunPlace} (has : Bool) (refused : ℕ) (z : Station) (r : Result RunResult (RenderError E))
+pub end_after : {E : Type 0} {o : RenderOptions} {b c : RunPlace} (has : Bool) (refused : ℕ) (z : Station)
+    (r : Result RunResult (RenderError E))
     → Comes o b c → EndCourseOrStop o c has refused z r → EndCourseOrStop o b has refused z r
 end_after has refused z (Ok run_result.Finished) h k = stops_after h k
 end_after has refused z (Ok run_result.Shift) h k = record { waiting = k.waiting; are = k.are; comes = come_then h k.comes }
@@ -165,7 +168,8 @@ flush_comes {o} p q k has refused same none some stack state = come_by FlushEnd 
 })
 
 -- it ended in an error, and no document has failed
-pub flush_error : (A : Type 0) {E : Type 0} {o : RenderOptions} {a b : RunPlace} (e : RenderError E) → NoneFails {A = A} (Err e) → Comes o a b
+pub flush_error : (A : Type 0) {E : Type 0} {o : RenderOptions} {a b : RunPlace} (e : RenderError E) → NoneFails {A = A} (Err e)
+    → Comes o a b
     → ErrorCourse o a b.probes b.around.refused e
 flush_error A (Document e) none h = absurd none
 flush_error A (Sink e) none h = stops_here h
@@ -178,7 +182,8 @@ station_after z same h k = record { waiting = k.waiting; are = k.are; comes = co
 
 -- under options that are the same, after what came before
 pub end_then : {E : Type 0} {o o' : RenderOptions} {b c : RunPlace} (has : Bool) (refused : ℕ) (z : Station)
-    (r : Result RunResult (RenderError E)) → o' ≡ o → Comes o b c → EndCourseOrStop o' c has refused z r → EndCourseOrStop o b has refused z r
+    (r : Result RunResult (RenderError E)) → o' ≡ o → Comes o b c → EndCourseOrStop o' c has refused z r
+    → EndCourseOrStop o b has refused z r
 end_then {c = c} has refused z r same h k =
     end_after has refused z r h (subst (λ (o : RenderOptions). EndCourseOrStop o c has refused z r) same k)
 
@@ -256,11 +261,13 @@ pub reaches_options : (a : Point) (z : Station) → RunReaches a z → z.point.p
 reaches_options a z h = reached_options z.held a z h
 
 -- a run that stands at a station goes to the end
-pub station_ends : {A E : Type 0} {o : RenderOptions} {b : RunPlace} {has : Bool} {refused : ℕ} (probes : ℕ) (z : Station) (r : Result A (RenderError E))
+pub station_ends : {A E : Type 0} {o : RenderOptions} {b : RunPlace} {has : Bool} {refused : ℕ} (probes : ℕ) (z : Station)
+    (r : Result A (RenderError E))
     → z.point.printer.options ≡ o → ComesToStation o b has refused z → EndCourses has z probes r → EndCourse o b probes refused r
 station_ends {o = o} {has = has} {refused} probes z r same h k =
     end_course_after probes refused r h.comes
-    (subst (λ (x : RenderOptions). EndCourse x (place_at z.point.printer z.point.visits.probes (around h.waiting has refused)) probes refused r)
+    (subst (λ (x : RenderOptions). EndCourse x (place_at z.point.printer z.point.visits.probes (around h.waiting has refused))
+    probes refused r)
     same (k h.waiting refused h.are))
 
 -- no table was made, and one was refused or not

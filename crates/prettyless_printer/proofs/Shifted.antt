@@ -127,7 +127,8 @@ begun_renders fails {o} {d} {a} {b} m n r begins ran refused few pays =
     subst (λ (x : RenderOptions). Renders fails x d a.sink b.sink (record { visits = a.visits; refused = m })
     (record { visits = b.visits; refused = n }) r) begins.options
     (renders fails d m n r begins.tasks begins.state ran refused
-    (λ linear none. begins_few probe_factor probe_grace a.visits b.visits begins (few (begins_linear begins linear) none)) (begins_pays begins pays)
+    (λ linear none. begins_few probe_factor probe_grace a.visits b.visits begins (few (begins_linear begins linear) none))
+    (begins_pays begins pays)
     (begins_few_due begins pays))
 
 -- a render that is refused memory before its first node

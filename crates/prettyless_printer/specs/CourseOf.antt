@@ -1,5 +1,5 @@
 -- What the course of a run says of the run, by the way that it ends.
-use Rattle.std.specs.Prelude.{◌≡◌, ℕ, ◌≤◌, ◌<◌, ◌⊎◌, Bool, true, List, [], ◌∷◌, ◌++◌, length, Result, Ok, Err}
+use Rattle.std.specs.Prelude.{◌≡◌, ℕ, ◌<◌, ◌⊎◌, Bool, true, List, [], ◌∷◌, ◌++◌, length, Result, Ok, Err}
 use Rattle.prettyless_model.specs.declared.options.RenderOptions.{RenderOptions}
 use Rattle.prettyless_sink.specs.Sink.{rise}
 use Rattle.prettyless_sink.specs.declared.visits.RenderCost.{RenderCost}
@@ -78,7 +78,8 @@ pub record ComesToChoice (o : RenderOptions) (a : RunPlace) (u : Around) (i : �
   pub chooses : NextChooses o (place_with task q probes u) i x y q.tasks
 
 -- the course of a turn
-abbrev pub TurnCourse : {N E : Type 0} → (N → Tree) → RenderOptions → RunPlace → Around → Standing → ℕ → Result (TurnResult N) (RenderError E)
+abbrev pub TurnCourse : {N E : Type 0} → (N → Tree) → RenderOptions → RunPlace → Around → Standing → ℕ
+    → Result (TurnResult N) (RenderError E)
     → Type 0
 TurnCourse f o a u q probes (Ok turn_result.Complete) = Comes o a (place_at q probes u)
 TurnCourse f o a u q probes (Ok turn_result.Shift) = Comes o a (place_at q probes u)
@@ -143,7 +144,8 @@ pub record ComesInTrials (o : RenderOptions) (a : RunPlace) (has : Bool) (refuse
   pub comes : Comes o a (place_at b.printer b.visits.probes (around (open_waits s y us b trials) has refused))
 
 -- the course of open trials
-abbrev pub TrialsCourse : {E : Type 0} → RenderOptions → RunPlace → Bool → ℕ → Trial → Tree → Point → List Held → Result TrialResult E → Type 0
+abbrev pub TrialsCourse : {E : Type 0} → RenderOptions → RunPlace → Bool → ℕ → Trial → Tree → Point → List Held → Result TrialResult E
+    → Type 0
 TrialsCourse o a has refused s y b us (Ok trial_result.Kept) = Comes o a (place_at b.printer b.visits.probes (around [] has refused))
 TrialsCourse o a has refused s y b us (Ok trial_result.Rejected) = Comes o a (place_at b.printer b.visits.probes (around [] has refused))
 TrialsCourse o a has refused s y b us (Ok trial_result.Shift) = ComesInTrials o a has refused s y us b
@@ -157,7 +159,8 @@ choice_waits i x y a z h =
     open_waits (make_trial (point_at a.printer h.before a.visits) i x) y z.held (point_at z.point.printer z.buffer z.point.visits) h.trials
 
 -- A run has come from a place to a station in a choice.
-pub record ComesInChoice (o : RenderOptions) (b : RunPlace) (has : Bool) (refused i : ℕ) (x y : Tree) (a : Point) (z : Station) : Type 0 where
+pub record ComesInChoice (o : RenderOptions) (b : RunPlace) (has : Bool) (refused i : ℕ) (x y : Tree) (a : Point) (z : Station)
+    : Type 0 where
   pub choice : InChoice i x y a z
   pub comes : Comes o b (place_at z.point.printer z.point.visits.probes (around (choice_waits i x y a z choice) has refused))
 

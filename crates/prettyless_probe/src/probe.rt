@@ -5,7 +5,7 @@ ghost use Rattle.std.specs.Prelude.{◌+◌, ◌<◌, ◌≤◌, nat_lt};
 ghost use Rattle.std.specs.Prelude.{if◌then◌else◌, ℕ, Bool, ⊤};
 ghost use Rattle.prettyless_model.specs.Tree.{Tree, WeakLine, size};
 ghost use Rattle.prettyless_model.specs.declared.mode.Mode.TheVariants.{Flat};
-ghost use Rattle.prettyless_model.specs.Column.{commit, nested, padding_fits, prospective, start};
+ghost use Rattle.prettyless_model.specs.Column.{commit, padding_fits, prospective, start};
 ghost use Rattle.prettyless_model.specs.Look.{Answers, GoesOn, answer_of, by_mode, look, look_text, payload_begins};
 ghost use Rattle.prettyless_model.specs.Layout.{rest_fits};
 ghost use Rattle.prettyless_model.specs.declared.column.Column.{Column};

@@ -12,7 +12,8 @@ use Rattle.prettyless_printer.specs.Laying.{Laying, ends_turn}
 use Rattle.prettyless_printer.specs.Points.{Standing, point, point_at, seen, standing, state_at}
 use Rattle.prettyless_printer.specs.Visits.{visited_more}
 use Rattle.prettyless_printer.proofs.Trying.{grows_same}
-use Rattle.prettyless_printer.proofs.Courses.{asks_here, asks_in_part, course_begins, course_choice, course_down, course_failed, course_refused}
+use Rattle.prettyless_printer.proofs.Courses.{asks_here, asks_in_part, course_begins, course_choice, course_down, course_failed}
+use Rattle.prettyless_printer.proofs.Courses.{course_refused}
 use Rattle.prettyless_printer.proofs.Courses.{course_laid, course_wrote, refused_here, stops_at, stops_here}
 use Rattle.prettyless_printer.specs.CourseOf.{after_texts}
 use Rattle.prettyless_model.specs.declared.options.RenderOptions.{RenderOptions}
@@ -76,7 +77,8 @@ down-preserved-in-Ok-Descend g c =
       summed = c.in-Ok-Descend.ensures.summed;
       course = λ u has on. course_down (c.down.invariant.course u has on) has
           (asks_here f (make_task c.down.indent c.down.mode (f c.down.node)) c.down.printer hand.options c.step.ensures.visits.rises
-          c.step.ensures.visits.counted (λ needs few. c.in-Ok-Descend.ensures.visits.reads needs few (subst IsStepped (sym c.in-Ok-Descend.field-0-is) tt)))
+          c.step.ensures.visits.counted (λ needs few. c.in-Ok-Descend.ensures.visits.reads needs few (subst IsStepped (sym
+          c.in-Ok-Descend.field-0-is) tt)))
           (descended f c.in-Ok-Descend.next_indent c.down.mode c.in-Ok-Descend.next _ c.down.printer q
           (shown f c.down.printer q c.in-Ok-Descend.field-0 (step_result.Descend c.in-Ok-Descend.next_indent c.in-Ok-Descend.next) hand
           c.in-Ok-Descend.field-0-is c.in-Ok-Descend.ensures.step));
@@ -117,9 +119,11 @@ down-preserved g c =
       summed = c.in-Ok-DescendFlat.ensures.summed;
       course = λ u has on. course_down (c.down.invariant.course u has on) has
           (asks_here f (make_task c.down.indent c.down.mode (f c.down.node)) c.down.printer hand.options c.step.ensures.visits.rises
-          c.step.ensures.visits.counted (λ needs few. c.in-Ok-DescendFlat.ensures.visits.reads needs few (subst IsStepped (sym c.in-Ok-DescendFlat.field-0-is) tt)))
+          c.step.ensures.visits.counted (λ needs few. c.in-Ok-DescendFlat.ensures.visits.reads needs few (subst IsStepped (sym
+          c.in-Ok-DescendFlat.field-0-is) tt)))
           (descended f c.in-Ok-DescendFlat.next_indent Flat c.in-Ok-DescendFlat.next _ c.down.printer q
-          (shown f c.down.printer q c.in-Ok-DescendFlat.field-0 (step_result.DescendFlat c.in-Ok-DescendFlat.next_indent c.in-Ok-DescendFlat.next) hand
+          (shown f c.down.printer q c.in-Ok-DescendFlat.field-0 (step_result.DescendFlat c.in-Ok-DescendFlat.next_indent
+          c.in-Ok-DescendFlat.next) hand
           c.in-Ok-DescendFlat.field-0-is c.in-Ok-DescendFlat.ensures.step));
       spends = λ plain. spends_down f c.down.printer q c.in-Ok-DescendFlat.next_indent Flat c.in-Ok-DescendFlat.next took plain
           c.step.ensures.queue (shown f c.down.printer q c.in-Ok-DescendFlat.field-0
@@ -129,7 +133,8 @@ down-preserved g c =
           c.in-Ok-DescendFlat.next (shown f c.down.printer q c.in-Ok-DescendFlat.field-0
           (step_result.DescendFlat c.in-Ok-DescendFlat.next_indent c.in-Ok-DescendFlat.next) hand c.in-Ok-DescendFlat.field-0-is
           c.in-Ok-DescendFlat.ensures.step);
-      start = start_down f c.down.printer q c.in-Ok-DescendFlat.next_indent Flat c.in-Ok-DescendFlat.next _ c.in-Ok-DescendFlat.ensures.start
+      start = start_down f c.down.printer q c.in-Ok-DescendFlat.next_indent Flat c.in-Ok-DescendFlat.next _
+          c.in-Ok-DescendFlat.ensures.start
           (shown f c.down.printer q c.in-Ok-DescendFlat.field-0
           (step_result.DescendFlat c.in-Ok-DescendFlat.next_indent c.in-Ok-DescendFlat.next) hand c.in-Ok-DescendFlat.field-0-is
           c.in-Ok-DescendFlat.ensures.step) ∙ c.down.invariant.start;
@@ -485,7 +490,8 @@ returns-in-Err-clause-course g c =
     let f = g.N.Walk.tree in
     rw c.count_more.ensures.more
     (λ u has on. course_refused (c.down.invariant.course u has on) has
-    (asks_in_part f (make_task c.down.indent c.down.mode (f c.down.node)) c.down.printer c.down.invariant.hand.options c.step.ensures.visits.rises
+    (asks_in_part f (make_task c.down.indent c.down.mode (f c.down.node)) c.down.printer c.down.invariant.hand.options
+    c.step.ensures.visits.rises
     c.step.ensures.visits.counted c.step.ensures.visits.reads_at_most))
 
 pub returns-in-Ok-Silent-clause-course : goal.returns-in-Ok-Silent-clause-course
@@ -496,7 +502,8 @@ returns-in-Ok-Silent-clause-course g c =
     rw c.count_more-in-Ok-Silent.ensures.more
     (λ u has on. course_wrote (c.down.invariant.course u has on) has
     (asks_here f (make_task c.down.indent c.down.mode (f c.down.node)) c.down.printer hand.options c.step.ensures.visits.rises
-    c.step.ensures.visits.counted (λ needs few. c.in-Ok-Silent.ensures.visits.reads needs few (subst IsStepped (sym c.in-Ok-Silent.field-0-is) tt)))
+    c.step.ensures.visits.counted (λ needs few. c.in-Ok-Silent.ensures.visits.reads needs few (subst IsStepped (sym
+    c.in-Ok-Silent.field-0-is) tt)))
     (wrote f _ [] c.down.printer q (shown f c.down.printer q c.in-Ok-Silent.field-0 step_result.Silent hand c.in-Ok-Silent.field-0-is
     c.in-Ok-Silent.ensures.step)))
 
@@ -509,7 +516,8 @@ returns-in-Ok-Failed-clause-course g c =
     rw c.count_more-in-Ok-Failed.ensures.more
     (λ u has on. course_failed (c.down.invariant.course u has on)
     (asks_here f t c.down.printer hand.options c.step.ensures.visits.rises
-    c.step.ensures.visits.counted (λ needs few. c.in-Ok-Failed.ensures.visits.reads needs few (subst IsStepped (sym c.in-Ok-Failed.field-0-is) tt)))
+    c.step.ensures.visits.counted (λ needs few. c.in-Ok-Failed.ensures.visits.reads needs few (subst IsStepped (sym
+    c.in-Ok-Failed.field-0-is) tt)))
     (stuck_there f t.mode (step_from c.args.printer.now.options t (standing f c.down.printer)) c.down.printer q
     (shown f c.down.printer q c.in-Ok-Failed.field-0 step_result.Failed hand c.in-Ok-Failed.field-0-is c.in-Ok-Failed.ensures.step)).0)
 
@@ -526,7 +534,8 @@ returns-in-Ok-Choice-clause-course g c =
     rw c.count_more-in-Ok-Choice.ensures.more
     (λ u has on. course_choice c.in-Ok-Choice.indent (f c.in-Ok-Choice.first) (f c.in-Ok-Choice.second) (c.down.invariant.course u has on)
     (asks_here f t c.down.printer hand.options c.step.ensures.visits.rises
-    c.step.ensures.visits.counted (λ needs few. c.in-Ok-Choice.ensures.visits.reads needs few (subst IsStepped (sym c.in-Ok-Choice.field-0-is) tt)))
+    c.step.ensures.visits.counted (λ needs few. c.in-Ok-Choice.ensures.visits.reads needs few (subst IsStepped (sym
+    c.in-Ok-Choice.field-0-is) tt)))
     there.0 there.1)
 
 pub returns-in-Ok-write_piece-clause-course : goal.returns-in-Ok-write_piece-clause-course
@@ -537,7 +546,8 @@ returns-in-Ok-write_piece-clause-course g c =
     rw c.count_more-in-Ok-Emit.ensures.more
     (λ u has on. course_wrote (c.down.invariant.course u has on) has
     (asks_here f (make_task c.down.indent c.down.mode (f c.down.node)) c.down.printer hand.options c.step.ensures.visits.rises
-    c.step.ensures.visits.counted (λ needs few. c.in-Ok-Emit.ensures.visits.reads needs few (subst IsStepped (sym c.in-Ok-Emit.field-0-is) tt)))
+    c.step.ensures.visits.counted (λ needs few. c.in-Ok-Emit.ensures.visits.reads needs few (subst IsStepped (sym c.in-Ok-Emit.field-0-is)
+    tt)))
     (wrote f _ (piece_bytes c.in-Ok-Emit.piece) c.down.printer q (shown f c.down.printer q c.in-Ok-Emit.field-0
     (step_result.Emit c.in-Ok-Emit.piece) hand c.in-Ok-Emit.field-0-is c.in-Ok-Emit.ensures.step)))
 
@@ -549,7 +559,8 @@ returns-in-Err-write_piece-clause-course g c =
     rw c.count_more-in-Ok-Emit.ensures.more
     (λ u has on. stops_here (course_wrote (c.down.invariant.course u has on) has
     (asks_here f (make_task c.down.indent c.down.mode (f c.down.node)) c.down.printer hand.options c.step.ensures.visits.rises
-    c.step.ensures.visits.counted (λ needs few. c.in-Ok-Emit.ensures.visits.reads needs few (subst IsStepped (sym c.in-Ok-Emit.field-0-is) tt)))
+    c.step.ensures.visits.counted (λ needs few. c.in-Ok-Emit.ensures.visits.reads needs few (subst IsStepped (sym c.in-Ok-Emit.field-0-is)
+    tt)))
     (wrote f _ (piece_bytes c.in-Ok-Emit.piece) c.down.printer q (shown f c.down.printer q c.in-Ok-Emit.field-0
     (step_result.Emit c.in-Ok-Emit.piece) hand c.in-Ok-Emit.field-0-is c.in-Ok-Emit.ensures.step))))
 
@@ -688,7 +699,8 @@ returns-in-Err-clause-pays g c =
     let n = c.one_more.result in
     let x = visited_more n c.step.new.visits in
     let hand = c.down.invariant.hand in
-    let one = visit f c.down.count c.down.visits c.down.printer c.step.new.visits n hand c.one_more.ensures.one c.step.ensures.visits.printer
+    let one = visit f c.down.count c.down.visits c.down.printer c.step.new.visits n hand c.one_more.ensures.one
+    c.step.ensures.visits.printer
     c.step.ensures.visits.rises c.step.ensures.visits.counted in
     let took = takes f c.down.printer hand one (c.in-Err.ensures.visits.within tt) c.step.ensures.visits.counted
     c.step.ensures.visits.few c.down.invariant.spends in
@@ -706,7 +718,8 @@ returns-in-Ok-Silent-clause-pays g c =
     c.step.ensures.visits.printer
     c.step.ensures.visits.rises c.step.ensures.visits.counted in
     let took = takes f c.down.printer hand one
-    (c.in-Ok-Silent.ensures.visits.within (subst IsStepped (sym c.in-Ok-Silent.field-0-is) tt)) c.step.ensures.visits.counted c.step.ensures.visits.few
+    (c.in-Ok-Silent.ensures.visits.within (subst IsStepped (sym c.in-Ok-Silent.field-0-is) tt))
+    c.step.ensures.visits.counted c.step.ensures.visits.few
     c.down.invariant.spends in
     rw c.count_more-in-Ok-Silent.ensures.more
     (λ free.
@@ -725,7 +738,8 @@ returns-in-Ok-Failed-clause-pays g c =
     c.step.ensures.visits.printer
     c.step.ensures.visits.rises c.step.ensures.visits.counted in
     let took = takes f c.down.printer hand one
-    (c.in-Ok-Failed.ensures.visits.within (subst IsStepped (sym c.in-Ok-Failed.field-0-is) tt)) c.step.ensures.visits.counted c.step.ensures.visits.few
+    (c.in-Ok-Failed.ensures.visits.within (subst IsStepped (sym c.in-Ok-Failed.field-0-is) tt))
+    c.step.ensures.visits.counted c.step.ensures.visits.few
     c.down.invariant.spends in
     rw c.count_more-in-Ok-Failed.ensures.more
     (λ free. pays_failed f c.down.printer took _ (c.down.invariant.pays free) q
@@ -742,7 +756,8 @@ returns-in-Ok-Choice-clause-pays g c =
     c.step.ensures.visits.printer
     c.step.ensures.visits.rises c.step.ensures.visits.counted in
     let took = takes f c.down.printer hand one
-    (c.in-Ok-Choice.ensures.visits.within (subst IsStepped (sym c.in-Ok-Choice.field-0-is) tt)) c.step.ensures.visits.counted c.step.ensures.visits.few
+    (c.in-Ok-Choice.ensures.visits.within (subst IsStepped (sym c.in-Ok-Choice.field-0-is) tt))
+    c.step.ensures.visits.counted c.step.ensures.visits.few
     c.down.invariant.spends in
     (λ free.
     pays_choice f c.down.printer took _ (c.down.invariant.pays free) q c.in-Ok-Choice.indent c.in-Ok-Choice.first c.in-Ok-Choice.second
@@ -761,7 +776,8 @@ returns-in-Ok-write_piece-clause-pays g c =
     c.step.ensures.visits.printer
     c.step.ensures.visits.rises c.step.ensures.visits.counted in
     let took = takes f c.down.printer hand one
-    (c.in-Ok-Emit.ensures.visits.within (subst IsStepped (sym c.in-Ok-Emit.field-0-is) tt)) c.step.ensures.visits.counted c.step.ensures.visits.few
+    (c.in-Ok-Emit.ensures.visits.within (subst IsStepped (sym c.in-Ok-Emit.field-0-is) tt))
+    c.step.ensures.visits.counted c.step.ensures.visits.few
     c.down.invariant.spends in
     let bytes = piece_bytes c.in-Ok-Emit.piece in
     rw c.count_more-in-Ok-Emit.ensures.more
@@ -780,7 +796,8 @@ returns-in-Err-write_piece-clause-pays g c =
     c.step.ensures.visits.printer
     c.step.ensures.visits.rises c.step.ensures.visits.counted in
     let took = takes f c.down.printer hand one
-    (c.in-Ok-Emit.ensures.visits.within (subst IsStepped (sym c.in-Ok-Emit.field-0-is) tt)) c.step.ensures.visits.counted c.step.ensures.visits.few
+    (c.in-Ok-Emit.ensures.visits.within (subst IsStepped (sym c.in-Ok-Emit.field-0-is) tt))
+    c.step.ensures.visits.counted c.step.ensures.visits.few
     c.down.invariant.spends in
     rw c.count_more-in-Ok-Emit.ensures.more
     (λ free. pays_error f c.down.printer took _ (c.down.invariant.pays free))

@@ -82,7 +82,8 @@ pub returns-else-self-clause-course : goal.returns-else-self-clause-course
 returns-else-self-clause-course g c = λ w ws refused within.
     rejected_past (standing g.N.Walk.tree c.turn.new.printer)
     ((rw c.in-Ok-Complete.field-0-is at c.in-Ok-Complete.ensures.course) (around (w ∷ ws) g.N.Walk.HAS_SUMMARIES refused) refl
-    (goes_in ws g.N.Walk.HAS_SUMMARIES refused within (omega (arith, c.if-len-below.false, c.len.ensures, c.below.ensures)))) c.if-self.false
+    (goes_in ws g.N.Walk.HAS_SUMMARIES refused within (omega (arith, c.if-len-below.false, c.len.ensures, c.below.ensures))))
+    c.if-self.false
 
 -- two branches are to be chosen from
 pub returns-in-Ok-Choice-clause-course : goal.returns-in-Ok-Choice-clause-course

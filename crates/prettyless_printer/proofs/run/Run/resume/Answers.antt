@@ -154,7 +154,8 @@ returns-in-Finished-clause-course g c = λ ws refused are.
     let came = waits_in_choice (held_of f old) (station_of f old (sink c.args.out.now)) ws some are in
     let reached = came_in_choice c.requires.comes.0 (station_of f old (sink c.args.out.now)) some c.requires.comes.1 in
     let z = station_of f c.run_to_end-in-Finished.new.self (sink c.run_to_end-in-Finished.new.out) in
-    let chose = (rw c.in-Finished.is at c.in_ok-resume_choice.ensures.course) came.indent came.first came.second came.start came.choice refused in
+    let chose = (rw c.in-Finished.is at c.in_ok-resume_choice.ensures.course) came.indent came.first came.second came.start came.choice
+    refused in
     let settled = (rw c.in-Finished.is at c.in_ok-resume_choice.ensures.settles) reached.indent reached.first reached.second reached.at
     reached.choice in
     end_then g.N.Walk.HAS_SUMMARIES refused z c.run_to_end-in-Finished.result

@@ -45,17 +45,20 @@ returns-in-Ok-clause-course g c = λ i x y a h refused.
 
 pub returns-in-Err-write_gap_and_text-clause-course : goal.returns-in-Err-write_gap_and_text-clause-course
 returns-in-Err-write_gap_and_text-clause-course g c = λ i x y a h refused.
-    stops_here ((rw c.in-Ok-Kept.field-0-is at c.in-Ok-Kept.ensures.course) (make_trial (point_at a.printer h.before a.visits) i x) y h.trials
+    stops_here ((rw c.in-Ok-Kept.field-0-is at c.in-Ok-Kept.ensures.course) (make_trial (point_at a.printer h.before a.visits) i x)
+    y h.trials
     refused)
 
 pub returns-in-Ok-Rejected-clause-course : goal.returns-in-Ok-Rejected-clause-course
 returns-in-Ok-Rejected-clause-course g c = λ i x y a h refused.
-    (rw c.in-Ok-Rejected.field-0-is at c.in-Ok-Rejected.ensures.course) (make_trial (point_at a.printer h.before a.visits) i x) y h.trials refused
+    (rw c.in-Ok-Rejected.field-0-is at c.in-Ok-Rejected.ensures.course) (make_trial (point_at a.printer h.before a.visits) i x)
+    y h.trials refused
 
 pub returns-in-Ok-Shift-clause-course : goal.returns-in-Ok-Shift-clause-course
 returns-in-Ok-Shift-clause-course g c = λ i x y a h refused.
     in_choice (station_of g.N.Walk.tree c.resume_trial.new.self (seen_by g.W.Render c.args.out.now)) h h.sink
-    ((rw c.in-Ok-Shift.field-0-is at c.in-Ok-Shift.ensures.course) (make_trial (point_at a.printer h.before a.visits) i x) y h.trials refused)
+    ((rw c.in-Ok-Shift.field-0-is at c.in-Ok-Shift.ensures.course) (make_trial (point_at a.printer h.before a.visits) i x)
+    y h.trials refused)
 
 pub returns-in-Err-clause-course : goal.returns-in-Err-clause-course
 returns-in-Err-clause-course g c = λ i x y a h refused.

@@ -18,7 +18,8 @@ use Rattle.prettyless_printer.proofs.Chains.{open_choice_error, open_rejected_er
 use Rattle.prettyless_printer.proofs.Chains.{open_other, open_some, open_stops, took}
 use Rattle.prettyless_printer.proofs.Courses.{come_same}
 use Rattle.prettyless_printer.proofs.OpenCourses.{course_error, course_error_choice, course_error_rejected, course_goes, course_kept}
-use Rattle.prettyless_printer.proofs.OpenCourses.{course_kept_last, course_more, course_other, course_other_last, course_stays, in_held, in_run}
+use Rattle.prettyless_printer.proofs.OpenCourses.{course_kept_last, course_more, course_other, course_other_last, course_stays, in_held}
+use Rattle.prettyless_printer.proofs.OpenCourses.{in_run}
 use Rattle.prettyless_printer.proofs.OpenCourses.{opens_in, part_at, same_options, trials_error}
 use Rattle.prettyless_printer.proofs.Costs.{left_at, less_goes, less_more, less_kept, less_other}
 use Rattle.prettyless_printer.proofs.Trying.{cut_back, flagged, pushed, queue_marked}
@@ -264,7 +265,8 @@ work-preserved-else-is_empty-2 g c =
           let now = c.work.invariant.course s y h refused in
           course_other AllocError f g.N.Walk.HAS_SUMMARIES (trial_point f new) (all_held f us) (held f c.in-Some-pop.trial) (standing f r)
           (sym same ∙ all_held-push f _ us c.in-Some-pop.trial c.in-Some-pop.ensures.items) (omega (arith, length-all_held f us, inner)) now
-          (options_at f s y c.args.self.now c.work.self h now.trials) course (rw c.in-Rejected.is at c.in_ok-advance.ensures.course) c.undo.ensures.printer
+          (options_at f s y c.args.self.now c.work.self h now.trials) course (rw c.in-Rejected.is at c.in_ok-advance.ensures.course)
+          c.undo.ensures.printer
           (record { is_known = refl; bytes = c.undo.ensures.buffer; failures = c.undo.ensures.failures; lender = refl })
           (pushed (standing f q) c.in_ok-push-in-Rejected.ensures.pushed refl refl refl);
       summed = c.in_ok-push-in-Rejected.ensures.summed (c.undo.ensures.summed c.in_ok-advance.ensures.summed);
@@ -308,7 +310,8 @@ work-preserved g c =
           let now = c.work.invariant.course s y h refused in
           in_run f c.open_trial.new.self _ others
           (course_more AllocError f g.N.Walk.HAS_SUMMARIES (trial_point f c.advance.new.self) c.in-Choice.choice (held_of f old)
-          (held_of f next) now (options_at f s y c.args.self.now c.work.self h now.trials) course (rw c.in-Choice.is at c.in_ok-advance.ensures.course)
+          (held_of f next) now (options_at f s y c.args.self.now c.work.self h now.trials) course (rw c.in-Choice.is at
+          c.in_ok-advance.ensures.course)
           (opens_in same c.in_ok-open_trial-in-Choice.ensures.held)
           c.in_ok-open_trial-in-Choice.ensures.begun (IsUtf8-string_bytes c.advance.new.self.buffer.text));
       summed = c.in_ok-open_trial-in-Choice.ensures.summed;
@@ -394,7 +397,8 @@ returns-in_err-advance-clause-course g c =
     let f = g.N.Walk.tree in
     λ s y h refused.
     let now = c.work.invariant.course s y h refused in
-    trials_error g.N.Walk.HAS_SUMMARIES s y (trial_point f c.advance.new.self) (held_of f c.advance.new.self) c.from_residual.result c.from_residual.ensures.0
+    trials_error g.N.Walk.HAS_SUMMARIES s y (trial_point f c.advance.new.self) (held_of f c.advance.new.self)
+    c.from_residual.result c.from_residual.ensures.0
     (course_error AllocError f g.N.Walk.HAS_SUMMARIES (trial_point f c.advance.new.self) _ (held_of f c.work.self) now
     (options_at f s y c.args.self.now c.work.self h now.trials) c.in_err-advance.ensures.course)
 
@@ -418,7 +422,8 @@ returns-then-is_empty-clause-course g c = λ s y h refused.
     let same = same_open f _ _ c.advance.ensures.trials in
     let none : all_held f us ≡ [] = nil_from_length (all_held f us) (length-all_held f us ∙ c.is_empty.ensures.none c.if-is_empty.true) in
     course_kept_last AllocError f g.N.Walk.HAS_SUMMARIES (trial_point f c.advance.new.self) (all_held f us) (held f c.in-Some.trial)
-    (sym same ∙ all_held-push f _ us c.in-Some.trial c.in-Some.ensures.items) none now (options_at f s y c.args.self.now c.work.self h now.trials)
+    (sym same ∙ all_held-push f _ us c.in-Some.trial c.in-Some.ensures.items) none now (options_at f s y c.args.self.now c.work.self h
+    now.trials)
     (rw c.in-Complete.is at c.in_ok-advance.ensures.courses) (rw c.in-Complete.is at c.in_ok-advance.ensures.course)
     (flagged c.in-Some.trial.mark.within (standing f c.advance.new.self.printer))
 
@@ -449,7 +454,8 @@ returns-then-is_empty-2-clause-course g c = λ s y h refused.
     let none : all_held f us ≡ [] =
     nil_from_length (all_held f us) (length-all_held f us ∙ c.is_empty-in-Rejected.ensures.none c.if-is_empty-2.true) in
     course_other_last AllocError f g.N.Walk.HAS_SUMMARIES (trial_point f c.advance.new.self) (all_held f us) (held f c.in-Some-pop.trial)
-    (standing f r) (sym same ∙ all_held-push f _ us c.in-Some-pop.trial c.in-Some-pop.ensures.items) none now (options_at f s y c.args.self.now c.work.self h now.trials)
+    (standing f r) (sym same ∙ all_held-push f _ us c.in-Some-pop.trial c.in-Some-pop.ensures.items)
+    none now (options_at f s y c.args.self.now c.work.self h now.trials)
     (rw c.in-Rejected.is at c.in_ok-advance.ensures.courses) (rw c.in-Rejected.is at c.in_ok-advance.ensures.course)
     c.undo.ensures.printer (pushed (standing f q) c.in_ok-push-in-Rejected.ensures.pushed refl refl refl)
 
@@ -462,6 +468,6 @@ returns-in_err-open_trial-in-Choice-clause-course g c =
     trials_error g.N.Walk.HAS_SUMMARIES s y (trial_point f c.open_trial.new.self) (held_of f c.open_trial.new.self)
     c.from_residual-in_err-open_trial-in-Choice.result c.from_residual-in_err-open_trial-in-Choice.ensures.0
     (part_at (ap (λ (r : Run _). r.visits.probes) c.open_trial.ensures.others)
-    (course_error_choice AllocError f g.N.Walk.HAS_SUMMARIES (trial_point f c.advance.new.self) c.in-Choice.choice (held_of f c.work.self) now
+    (course_error_choice AllocError f g.N.Walk.HAS_SUMMARIES (trial_point f c.advance.new.self)
+    c.in-Choice.choice (held_of f c.work.self) now
     (options_at f s y c.args.self.now c.work.self h now.trials) (rw c.in-Choice.is at c.in_ok-advance.ensures.course)))
-

@@ -108,7 +108,8 @@ work-preserved g c =
       course = λ refused.
           let same = turned.options ∙ c.work.invariant.path.options in
           let waits = waits_after same (c.work.invariant.course refused)
-          (took_turn g.row.W-Error.Denot f g.N.Walk.HAS_SUMMARIES refused c.work.self.printer c.turn.new.printer c.work.self.visits.probes c.turn.new.visits.probes
+          (took_turn g.row.W-Error.Denot f g.N.Walk.HAS_SUMMARIES refused c.work.self.printer c.turn.new.printer c.work.self.visits.probes
+          c.turn.new.visits.probes
           (Ok (turn_result.Choice c.in-Choice.choice)) c.work.invariant.path.options (rw c.in-Choice.is at c.in_ok-turn.ensures.course)) in
           course_forgets f q.printer forgotten.new.self forgotten.ensures.pending
           (comes_at same ((rw c.in-Finished.is at c.in_ok-choose-in-Choice.ensures.course) _ refused waits));
@@ -236,14 +237,16 @@ returns-in-Shift-clause-course g c = λ refused.
     let next = record c.work.self { printer = c.turn.new.printer; visits = c.turn.new.visits } in
     station_alone (station_of f next (seen_by g.W.Render c.turn.new.out)) (ap (all_held f) c.work.invariant.none)
     (come_then (c.work.invariant.course refused)
-    (took_turn g.row.W-Error.Denot f g.N.Walk.HAS_SUMMARIES refused c.work.self.printer c.turn.new.printer c.work.self.visits.probes c.turn.new.visits.probes
+    (took_turn g.row.W-Error.Denot f g.N.Walk.HAS_SUMMARIES refused c.work.self.printer c.turn.new.printer c.work.self.visits.probes
+    c.turn.new.visits.probes
     (Ok turn_result.Shift) c.work.invariant.path.options (rw c.in-Shift.is at c.in_ok-turn.ensures.course)))
 
 pub returns-in-Failed-clause-course : goal.returns-in-Failed-clause-course
 returns-in-Failed-clause-course g c = λ refused.
     let f = g.N.Walk.tree in
     stops_after (c.work.invariant.course refused) (fails_alone
-    (took_turn g.row.W-Error.Denot f g.N.Walk.HAS_SUMMARIES refused c.work.self.printer c.turn.new.printer c.work.self.visits.probes c.turn.new.visits.probes
+    (took_turn g.row.W-Error.Denot f g.N.Walk.HAS_SUMMARIES refused c.work.self.printer c.turn.new.printer c.work.self.visits.probes
+    c.turn.new.visits.probes
     (Ok turn_result.Failed) c.work.invariant.path.options (rw c.in-Failed.is at c.in_ok-turn.ensures.course)))
 
 pub returns-in_err-turn-clause-course : goal.returns-in_err-turn-clause-course
@@ -270,7 +273,8 @@ returns-in_err-choose-in-Choice-clause-course g c =
     let advanced = rw c.in-Choice.is at c.in_ok-turn.ensures.advances in
     let same = advanced.options ∙ c.work.invariant.path.options in
     let waits = waits_after same (c.work.invariant.course refused)
-    (took_turn g.row.W-Error.Denot f g.N.Walk.HAS_SUMMARIES refused c.work.self.printer c.turn.new.printer c.work.self.visits.probes c.turn.new.visits.probes
+    (took_turn g.row.W-Error.Denot f g.N.Walk.HAS_SUMMARIES refused c.work.self.printer c.turn.new.printer c.work.self.visits.probes
+    c.turn.new.visits.probes
     (Ok (turn_result.Choice c.in-Choice.choice)) c.work.invariant.path.options (rw c.in-Choice.is at c.in_ok-turn.ensures.course)) in
     error_at _ c.choose.new.self.visits.probes refused e same (c.in_err-choose-in-Choice.ensures.course _ refused waits)
 
@@ -283,7 +287,8 @@ returns-in-Shift-2-clause-course g c = λ refused.
     let advanced = rw c.in-Choice.is at c.in_ok-turn.ensures.advances in
     let same = advanced.options ∙ c.work.invariant.path.options in
     let waits = waits_after same (c.work.invariant.course refused)
-    (took_turn g.row.W-Error.Denot f g.N.Walk.HAS_SUMMARIES refused c.work.self.printer c.turn.new.printer c.work.self.visits.probes c.turn.new.visits.probes
+    (took_turn g.row.W-Error.Denot f g.N.Walk.HAS_SUMMARIES refused c.work.self.printer c.turn.new.printer c.work.self.visits.probes
+    c.turn.new.visits.probes
     (Ok (turn_result.Choice c.in-Choice.choice)) c.work.invariant.path.options (rw c.in-Choice.is at c.in_ok-turn.ensures.course)) in
     station_in_choice (station_of f c.choose.new.self (seen_by g.W.Render c.choose.new.out))
     (in_choice_at same ((rw c.in-Shift-2.is at c.in_ok-choose-in-Choice.ensures.course) _ refused waits))

@@ -87,7 +87,8 @@ rounds-preserved g c =
           let flushed = c.in_ok-flush_end-in-Finished.ensures.flushes in
           come_then (c.rounds.invariant.course refused)
           (come_then (comes_at before ((rw c.in-Finished.is at c.in_ok-run_commands.ensures.course) refused))
-          (flush_comes (standing f p) (standing f c.flush_end.new.printer) c.run_commands.new.self.visits.probes g.N.Walk.HAS_SUMMARIES refused
+          (flush_comes (standing f p) (standing f c.flush_end.new.printer) c.run_commands.new.self.visits.probes g.N.Walk.HAS_SUMMARIES
+          refused
           (ran.options ∙ before) ran.done
           (sym (pending_stands f p) ∙ sym c.is_pending.ensures ∙ c.if-not-is_pending.false) flushed.stack flushed.state));
       pays = λ free.

@@ -212,7 +212,8 @@ returns-in-Some-clause-course g c =
     subst (λ (n : ℕ). EndCourse c.args.self.now.printer.options
     (place_at (standing f c.args.self.now.printer) c.args.self.now.visits.probes (around [] g.N.Walk.HAS_SUMMARIES c.args.refused.now))
     c.try_shift.new.self.visits.probes n c.in-Some.ended) (sym c.in-Some.ensures.made)
-    (station_ends c.try_shift.new.self.visits.probes z c.in-Some.ended (reaches_options start z c.rounds.invariant.comes) c.rounds.invariant.course c.in-Some.ensures.course)
+    (station_ends c.try_shift.new.self.visits.probes z c.in-Some.ended (reaches_options start z c.rounds.invariant.comes)
+    c.rounds.invariant.course c.in-Some.ensures.course)
 
 pub returns-in-Finished-clause-course : goal.returns-in-Finished-clause-course
 returns-in-Finished-clause-course g c =
@@ -240,7 +241,8 @@ returns-in_err-resume-clause-course g c =
     let e = c.in_err-resume.field-0.0 in
     let probes = c.resume.new.self.visits.probes in
     let refused = c.try_shift.new.refused in
-    error_after probes refused e here.comes (error_at _ probes refused e same (c.in_err-resume.ensures.course here.waiting refused here.are))
+    error_after probes refused e here.comes (error_at _ probes refused e same (c.in_err-resume.ensures.course here.waiting refused
+    here.are))
 
 -- without unions
 pub returns-in-Some-clause-pays : goal.returns-in-Some-clause-pays
