@@ -90,7 +90,7 @@ def is_of_a_clause(edit, goal, knows_loop):
 
 
 def told_clause(edit, message):
-    """The goal of a clause that `rt must-fail` names in the beginning of a message of an edit, or None. A loop's may be one that the edit brings."""
+    """The goal of a clause that `rt must-fail` names in the beginning of its message of an edit, or None."""
     found = TOLD_GOAL.match(message) or TOLD_ANSWER.match(message)
     goal = found and found[found.lastindex]
     return goal if goal and is_of_a_clause(edit, goal, lambda loop: False) else None
