@@ -6,7 +6,6 @@ pub use Rattle.prettyless_build.specs.Built
 pub use Rattle.prettyless_build.specs.Iterated
 pub use Rattle.prettyless_doc.specs.Breaks
 pub use Rattle.prettyless_doc.specs.BuildErrors
-pub use Rattle.prettyless_doc.specs.Constants
 pub use Rattle.prettyless_doc.specs.Counted
 pub use Rattle.prettyless_doc.specs.DocTree
 pub use Rattle.prettyless_doc.specs.Lines

@@ -20,7 +20,7 @@ pub use prettyless_alloc::{
 };
 pub use prettyless_build::{DocBuilder, Pretty};
 pub use prettyless_combinators as combinators;
-pub use prettyless_doc::{BuildDoc, Constant, Doc, DocPlace, DocPtr, PrettyError, PrettyFmt, text};
+pub use prettyless_doc::{BuildDoc, Doc, DocPlace, DocPtr, PrettyError, PrettyFmt, text};
 pub use prettyless_model::choice::{ColumnTest, NestingTest};
 pub use prettyless_model::options::{IndentationPolicy, LineEnding, RenderOptions};
 pub use prettyless_pointers::{

@@ -17,7 +17,7 @@ use crate::spaces::spaces;
 use crate::words::reflow;
 use prettyless_build::{DocBuilder, Pretty};
 use prettyless_doc::text::CowStr;
-use prettyless_doc::{BuildDoc, BuildError, Constant, Doc, DocPlace, Text};
+use prettyless_doc::{BuildDoc, BuildError, Doc, DocPlace, Text};
 use std::fmt;
 
 /// The documents that every place of nodes can start.
@@ -383,18 +383,14 @@ impl<'a, D: DocPlace<'a>> DocAllocator<'a> for D {
 
     #[inline(always)]
     fn softline(&'a self) -> Result<DocBuilder<'a, D>, BuildError> {
-        match self.constant(Constant::SoftLineOrSpace) {
-            Some(softline) => Ok(DocBuilder::from_doc(self, softline)),
-            None => self.line()?.group(),
-        }
+        let line = self.line()?.into_doc()?;
+        Ok(DocBuilder::new(self, Doc::Group(line)))
     }
 
     #[inline(always)]
     fn softline_(&'a self) -> Result<DocBuilder<'a, D>, BuildError> {
-        match self.constant(Constant::SoftLineOrNil) {
-            Some(softline) => Ok(DocBuilder::from_doc(self, softline)),
-            None => self.line_()?.group(),
-        }
+        let line = self.line_()?.into_doc()?;
+        Ok(DocBuilder::new(self, Doc::Group(line)))
     }
 
     fn separate(

@@ -1,4 +1,3 @@
-pub mod Constants
 pub mod Counted
 pub mod DocTree
 pub mod Lines

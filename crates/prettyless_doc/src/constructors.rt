@@ -8,7 +8,6 @@ ghost use Rattle.prettyless_doc.specs.Lines.{space, line, line_};
 ghost use Rattle.prettyless_doc.specs.TextBytes.{IfLent};
 ghost use Rattle.prettyless_doc.specs.Tree as tree;
 
-use crate::constant::Constant;
 use crate::doc::{BuildDoc, Doc, DocPtr};
 use crate::place::DocPlace;
 use crate::text::{BuildError, CowStr, Text};
@@ -285,10 +284,8 @@ impl<'a, T> BuildDoc<'a, T> {
         ensures ok { IfOk result (λ d. built T.tree d ≡ line) }
         ensures err { IfErr result IsMemory }
     {
-        match place.constant(Constant::LineOrSpace) {
-            Some(line) => Ok(BuildDoc::DocPtr(line)),
-            None => Ok(BuildDoc::Doc(Doc::line(place)?)),
-        }
+        let line = Doc::line(place)?;
+        Ok(BuildDoc::DocPtr(place.alloc(line)?))
     }
 
     /// A line break, or nothing where lines are flat. It fails where memory is refused.
@@ -301,9 +298,7 @@ impl<'a, T> BuildDoc<'a, T> {
         ensures ok { IfOk result (λ d. built T.tree d ≡ line_) }
         ensures err { IfErr result IsMemory }
     {
-        match place.constant(Constant::LineOrNil) {
-            Some(line) => Ok(BuildDoc::DocPtr(line)),
-            None => Ok(BuildDoc::Doc(Doc::line_(place)?)),
-        }
+        let line = Doc::line_(place)?;
+        Ok(BuildDoc::DocPtr(place.alloc(line)?))
     }
 }

@@ -5,7 +5,6 @@
 #![tactic(auto)]
 
 mod clone;
-mod constant;
 mod constructors;
 mod conversions;
 mod debug;
@@ -18,7 +17,6 @@ pub mod render;
 mod texts;
 pub mod walk;
 
-pub use constant::Constant;
 pub use doc::{BuildDoc, Doc, DocPtr};
 pub use error::PrettyError;
 pub use place::DocPlace;

@@ -1,14 +1,12 @@
-ghost use Rattle.std.specs.Prelude.{◌≡◌, IfOk, IfErr, IfSome};
+ghost use Rattle.std.specs.Prelude.{◌≡◌, IfOk, IfErr};
 ghost use Rattle.prettyless_doc.specs.BuildErrors.{IsMemory};
-ghost use Rattle.prettyless_doc.specs.Constants.{constant_tree};
 ghost use Rattle.prettyless_doc.specs.DocTree.{tree_of};
 
-use crate::constant::Constant;
 use crate::doc::{Doc, DocPtr};
 use crate::text::BuildError;
 use std::alloc::Global;
 
-/// Where the nodes of documents are put.
+/// Where the nodes of documents are put. A place of one's own implements this trait alone.
 pub trait DocPlace<'a>: Sized {
     /// The pointer to a node here.
     type Doc: DocPtr<'a>;
@@ -25,10 +23,6 @@ pub trait DocPlace<'a>: Sized {
 
     /// The memory that texts are made in.
     fn memory(&'a self) -> Global;
-
-    /// A pointer to this constant, where the place has one for all. It takes no memory.
-    fn constant(&'a self, which: Constant) -> Option<Self::Doc>
-        ensures { IfSome result (λ p. Self.Doc.tree p ≡ constant_tree which) };
 }
 
 /// The same place. It is passed by reference.
@@ -51,11 +45,5 @@ impl<'a, D: DocPlace<'a>> DocPlace<'a> for &'a D {
 
     fn memory(&'a self) -> Global {
         (**self).memory()
-    }
-
-    fn constant(&'a self, which: Constant) -> Option<D::Doc>
-        ensures { IfSome result (λ p. D.Doc.tree p ≡ constant_tree which) }
-    {
-        (**self).constant(which)
     }
 }

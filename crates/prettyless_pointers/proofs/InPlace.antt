@@ -4,12 +4,11 @@ use Rattle.prettyless_doc.specs.DocTree.{tree_of, holds_memory}
 use Rattle.std.proofs.lemmas.Bool.{eqb-true}
 use Rattle.prettyless_model.specs.Tree as t
 use Rattle.prettyless_model.specs.Tree.{Tree}
-use Rattle.prettyless_doc.specs.Constants.{constant_tree}
 use Rattle.prettyless_doc.specs.Lines.{space}
-use Rattle.prettyless_doc.specs.declared.constant.Constant.{Constant}
-use Rattle.prettyless_doc.specs.declared.constant.Constant.TheVariants.{Nil, Fail, Space, WeakSpace, HardLine, WeakLine, ExpandParent}
-use Rattle.prettyless_doc.specs.declared.constant.Constant.TheVariants.{LineOrSpace, LineOrNil, SoftLineOrSpace, SoftLineOrNil}
-use Rattle.prettyless_pointers.specs.Constants.{IsTable, LeadsTo, is_space, is_nothing, is_line, is_grouped, is_constant}
+use Rattle.prettyless_pointers.specs.declared.constants.Constant.{Constant}
+use Rattle.prettyless_pointers.specs.declared.constants.Constant.TheVariants.{Nil, Fail, Space, WeakSpace, HardLine, WeakLine, ExpandParent}
+use Rattle.prettyless_pointers.specs.declared.constants.Constant.TheVariants.{LineOrSpace, LineOrNil, SoftLineOrSpace, SoftLineOrNil}
+use Rattle.prettyless_pointers.specs.Constants.{IsTable, LeadsTo, constant_tree, is_space, is_nothing, is_line, is_grouped, is_constant}
 use Rattle.prettyless_doc.specs.declared.doc.Doc.{Doc}
 use Rattle.prettyless_doc.specs.declared.doc.Doc.TheVariants as n
 use Rattle.prettyless_pointers.specs.Trees.{ref_tree}
@@ -78,13 +77,13 @@ pub record InOrder (p0 p1 p2 p3 p4 p5 p6 p7 p8 p9 p10 : RefDoc) : Type 0 where
   pub fail : LeadsTo Fail p1
   pub space : LeadsTo Space p2
   pub weak_space : LeadsTo WeakSpace p3
-  pub hard_line : LeadsTo HardLine p4
+  pub softline_ : LeadsTo SoftLineOrNil p4
   pub weak_line : LeadsTo WeakLine p5
   pub expand_parent : LeadsTo ExpandParent p6
   pub line : LeadsTo LineOrSpace p7
   pub line_ : LeadsTo LineOrNil p8
   pub softline : LeadsTo SoftLineOrSpace p9
-  pub softline_ : LeadsTo SoftLineOrNil p10
+  pub hard_line : LeadsTo HardLine p10
 
 in-place :
     {p0 p1 p2 p3 p4 p5 p6 p7 p8 p9 p10 : RefDoc} → InOrder p0 p1 p2 p3 p4 p5 p6 p7 p8 p9 p10

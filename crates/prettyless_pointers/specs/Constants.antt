@@ -3,11 +3,26 @@ use Rattle.std.specs.Prelude.{ℕ, ◌≡◌, Bool, true, false, eqb, List, [], 
 use Rattle.prettyless_model.specs.Tree as t
 use Rattle.prettyless_model.specs.Tree.{Tree}
 use Rattle.prettyless_doc.specs.DocTree.{holds_memory}
-use Rattle.prettyless_doc.specs.declared.constant.Constant.{Constant}
-use Rattle.prettyless_doc.specs.declared.constant.Constant.TheVariants.{Nil, Fail, Space, WeakSpace, HardLine, WeakLine, ExpandParent}
-use Rattle.prettyless_doc.specs.declared.constant.Constant.TheVariants.{LineOrSpace, LineOrNil, SoftLineOrSpace, SoftLineOrNil}
+use Rattle.prettyless_doc.specs.Lines.{space, line, line_}
+use Rattle.prettyless_pointers.specs.declared.constants.Constant.{Constant}
+use Rattle.prettyless_pointers.specs.declared.constants.Constant.TheVariants.{Nil, Fail, Space, WeakSpace, HardLine, WeakLine, ExpandParent}
+use Rattle.prettyless_pointers.specs.declared.constants.Constant.TheVariants.{LineOrSpace, LineOrNil, SoftLineOrSpace, SoftLineOrNil}
 use Rattle.prettyless_pointers.specs.declared.arena.RefDoc.{RefDoc, out-RefDoc}
 use Rattle.prettyless_pointers.specs.Trees.{ref_tree}
+
+-- the tree of a constant
+abbrev pub constant_tree : Constant → Tree
+constant_tree Nil = t.Nil
+constant_tree Fail = t.Fail
+constant_tree Space = space
+constant_tree WeakSpace = t.WeakSpace
+constant_tree HardLine = t.HardLine
+constant_tree WeakLine = t.WeakLine
+constant_tree ExpandParent = t.ExpandParent
+constant_tree LineOrSpace = line
+constant_tree LineOrNil = line_
+constant_tree SoftLineOrSpace = t.Group line
+constant_tree SoftLineOrNil = t.Group line_
 
 -- whether a tree is one space
 abbrev pub is_space : Tree → Bool
@@ -54,13 +69,13 @@ index_of Nil = 0
 index_of Fail = 1
 index_of Space = 2
 index_of WeakSpace = 3
-index_of HardLine = 4
+index_of SoftLineOrNil = 4
 index_of WeakLine = 5
 index_of ExpandParent = 6
 index_of LineOrSpace = 7
 index_of LineOrNil = 8
 index_of SoftLineOrSpace = 9
-index_of SoftLineOrNil = 10
+index_of HardLine = 10
 
 -- each constant that the table has is in its place
 abbrev pub IsTable : List RefDoc → Type 0

@@ -3,22 +3,21 @@ ghost use Rattle.std.specs.Prelude.{◌≡◌, false, IfOk, IfErr, IfSome, Ok};
 ghost use Rattle.std.proofs.Props.{props};
 ghost use Rattle.prettyless_doc.specs.BuildErrors.{IsMemory};
 ghost use Rattle.prettyless_doc.specs.declared.doc.BuildDoc.TheVariants.{DocPtr as Placed};
-ghost use Rattle.prettyless_doc.specs.Constants.{constant_tree};
 ghost use Rattle.prettyless_doc.specs.DocTree.{tree_of, built, holds_memory};
 ghost use Rattle.prettyless_doc.specs.Payload as source;
 ghost use Rattle.prettyless_doc.specs.Payload.{payload_bytes};
 ghost use Rattle.prettyless_doc.specs.TextBytes.{bytes_of_text, is_owned};
-ghost use Rattle.prettyless_doc.specs.Tree.{Tree, Append, Group, LineSuffix, Nest, Text as TextTree, Union};
+ghost use Rattle.prettyless_doc.specs.Tree.{Tree, Append, BreakOrFlat, Group, LineSuffix, Nest, Text as TextTree, Union};
 ghost use Rattle.prettyless_build.specs.Built.{IfPlaced};
-ghost use Rattle.prettyless_pointers.specs.Constants.{IsTable};
+ghost use Rattle.prettyless_pointers.specs.Constants.{IsTable, constant_tree};
 ghost use Rattle.prettyless_pointers.specs.declared.arena.RefDoc.{out-RefDoc};
 ghost use Rattle.prettyless_pointers.specs.Trees.{ref_tree};
 
-use crate::constants::{constant_of, find, table};
+use crate::constants::{Constant, constant_of, find, is_line, is_line_, table};
 use bumpalo::Bump;
 use prettyless_build::{DocBuilder, Pretty};
 use prettyless_doc::text::MultilineTextData;
-use prettyless_doc::{BuildDoc, BuildError, Constant, Doc, DocPlace, DocPtr, Text};
+use prettyless_doc::{BuildDoc, BuildError, Doc, DocPlace, DocPtr, Text};
 use std::alloc::{AllocError, Global};
 use std::cell::Cell;
 use std::fmt;
@@ -261,17 +260,12 @@ impl<'a> Arena<'a> {
         self.put_fast(&self.inner, Doc::Append(first, second))
     }
 
-    // A text that is lent, or the pointer to a constant.
+    // A text that is lent.
     #[inline(never)]
     fn put_text(&self, text: &'a str) -> Option<RefDoc<'a>>
         ensures same { IfSome result (λ p. ref_tree p ≡ TextTree text.now) }
         ensures settled { IfSome result (λ p. holds_memory (out-RefDoc p).0.now ≡ false) }
     {
-        if let [b' '] = text.as_bytes() {
-            if let Some(space) = self.find(Constant::Space) {
-                return Some(space);
-            }
-        }
         self.put_fast(self.bump, Doc::Text(Text::Borrowed(text)))
     }
 
@@ -340,6 +334,39 @@ impl<'a> Arena<'a> {
         }
     }
 
+    // A document to be laid broken, and one to be laid flat: the pointer to a constant where they are a line's.
+    #[inline(always)]
+    fn put_break_or_flat(&self, broken: RefDoc<'a>, flat: RefDoc<'a>) -> Option<RefDoc<'a>>
+        ensures same { IfSome result (λ p. ref_tree p ≡ BreakOrFlat (ref_tree broken.entry) (ref_tree flat.entry)) }
+        ensures settled { IfSome result (λ p. holds_memory (out-RefDoc p).0.now ≡ false) }
+    {
+        let doc = Doc::BreakOrFlat(broken, flat);
+        if is_line(broken, flat) {
+            return self.put_constant(Constant::LineOrSpace, doc);
+        }
+        if is_line_(broken, flat) {
+            return self.put_constant(Constant::LineOrNil, doc);
+        }
+        self.put_other(doc)
+    }
+
+    // A document in a group: the pointer to a constant where it is a line.
+    #[inline(always)]
+    fn put_grouped(&'a self, inner: RefDoc<'a>) -> Option<RefDoc<'a>>
+        ensures same { IfSome result (λ p. ref_tree p ≡ Group (ref_tree inner.entry)) }
+        ensures settled { IfSome result (λ p. holds_memory (out-RefDoc p).0.now ≡ false) }
+    {
+        if let Doc::BreakOrFlat(broken, flat) = inner.doc() {
+            if is_line(*broken, *flat) {
+                return self.put_constant(Constant::SoftLineOrSpace, Doc::Group(inner));
+            }
+            if is_line_(*broken, *flat) {
+                return self.put_constant(Constant::SoftLineOrNil, Doc::Group(inner));
+            }
+        }
+        self.put_group(inner)
+    }
+
     // Any node, as its variant is placed.
     #[inline(always)]
     fn put_any(&'a self, doc: Doc<'a, RefDoc<'a>>) -> Option<RefDoc<'a>>
@@ -348,13 +375,18 @@ impl<'a> Arena<'a> {
     {
         match doc {
             Doc::Append(first, second) => self.put_append(first, second),
-            Doc::Text(Text::Borrowed(text)) => self.put_text(text),
+            Doc::Text(Text::Borrowed(text)) => match text.as_bytes() {
+                [b' '] => self.put_constant(Constant::Space, Doc::Text(Text::Borrowed(text))),
+                _ => self.put_text(text),
+            },
             Doc::Nest(offset, inner) => self.put_nest(offset, inner),
-            Doc::Group(inner) => self.put_group(inner),
+            Doc::Group(inner) => self.put_grouped(inner),
             Doc::Union(first, second) => self.put_union(first, second),
             Doc::LineSuffix(inner) => self.put_line_suffix(inner),
+            Doc::Nil => self.put_constant(Constant::Nil, Doc::Nil),
             Doc::HardLine => self.put_constant(Constant::HardLine, Doc::HardLine),
             Doc::WeakSpace => self.put_constant(Constant::WeakSpace, Doc::WeakSpace),
+            Doc::BreakOrFlat(broken, flat) => self.put_break_or_flat(broken, flat),
             other => self.put_other(other),
         }
     }
@@ -389,12 +421,5 @@ impl<'a> DocPlace<'a> for Arena<'a> {
 
     fn memory(&'a self) -> Global {
         self.memory
-    }
-
-    #[inline(always)]
-    fn constant(&'a self, which: Constant) -> Option<RefDoc<'a>>
-        ensures { IfSome result (λ p. ref_tree p ≡ constant_tree which) }
-    {
-        self.find(which)
     }
 }

@@ -7,7 +7,7 @@ ghost use Rattle.prettyless_pointers.specs.declared.boxes.BoxNode.{out-BoxNode};
 ghost use Rattle.prettyless_pointers.specs.Trees.{box_tree};
 
 use crate::children::{Children, into_children};
-use prettyless_doc::{BuildDoc, BuildError, Constant, Doc, DocPlace, DocPtr};
+use prettyless_doc::{BuildDoc, BuildError, Doc, DocPlace, DocPtr};
 use std::alloc::Global;
 use std::{fmt, mem};
 
@@ -158,11 +158,5 @@ impl<'a> DocPlace<'a> for BoxAllocator {
 
     fn memory(&'a self) -> Global {
         self.memory
-    }
-
-    /// None: each pointer owns its node.
-    #[inline(always)]
-    fn constant(&'a self, _which: Constant) -> Option<BoxDoc<'a>> {
-        None
     }
 }

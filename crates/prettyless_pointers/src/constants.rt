@@ -1,17 +1,35 @@
 //! The constants of an arena, each of which has one node there.
-ghost use Rattle.std.specs.Prelude.{◌≡◌, false, IfOk, IfErr, IfSome};
+ghost use Rattle.std.specs.Prelude.{◌≡◌, false, IfOk, IfErr, IfSome, IsTrue};
 ghost use Rattle.prettyless_doc.specs.BuildErrors.{IsMemory};
-ghost use Rattle.prettyless_doc.specs.Constants.{constant_tree};
 ghost use Rattle.prettyless_doc.specs.DocTree.{tree_of, holds_memory};
-ghost use Rattle.prettyless_pointers.specs.Constants.{IsTable, index_of};
+ghost use Rattle.prettyless_doc.specs.Lines.{space, line, line_};
+ghost use Rattle.prettyless_doc.specs.Tree.{Nil, HardLine, BreakOrFlat};
+ghost use Rattle.prettyless_pointers.specs.Constants.{IsTable, constant_tree, index_of};
 ghost use Rattle.prettyless_pointers.specs.declared.arena.RefDoc.{out-RefDoc};
 ghost use Rattle.prettyless_pointers.specs.Trees.{ref_tree};
 
 use crate::arena::RefDoc;
 use bumpalo::Bump;
-use prettyless_doc::{BuildError, Constant, Doc, Text};
+use prettyless_doc::{BuildError, Doc, DocPtr, Text};
 
-// Places all constants, and a table of pointers to them.
+// A document that an arena has once, so that all who place it get a pointer to the same node.
+#[derive(Clone, Copy)]
+pub(crate) enum Constant {
+    Nil,
+    Fail,
+    Space,
+    WeakSpace,
+    HardLine,
+    WeakLine,
+    ExpandParent,
+    LineOrSpace,
+    LineOrNil,
+    SoftLineOrSpace,
+    SoftLineOrNil,
+}
+
+// Places all constants, and a table of pointers to them. The hard line is last: where a line asks for it first, that the others are
+// there is known.
 pub(crate) fn table<'a>(bump: &'a Bump) -> Result<&'a [RefDoc<'a>], BuildError>
     ensures ok { IfOk result (λ ps. IsTable ps.now) }
     ensures err { IfErr result IsMemory }
@@ -49,13 +67,13 @@ pub(crate) fn table<'a>(bump: &'a Bump) -> Result<&'a [RefDoc<'a>], BuildError>
         RefDoc(fail),
         RefDoc(space),
         RefDoc(weak_space),
-        RefDoc(hard_line),
+        RefDoc(softline_),
         RefDoc(weak_line),
         RefDoc(expand_parent),
         RefDoc(line),
         RefDoc(line_),
         RefDoc(softline),
-        RefDoc(softline_),
+        RefDoc(hard_line),
     ])?;
     Ok(table)
 }
@@ -69,13 +87,13 @@ fn index_of(which: Constant) -> usize
         Constant::Fail => 1,
         Constant::Space => 2,
         Constant::WeakSpace => 3,
-        Constant::HardLine => 4,
+        Constant::SoftLineOrNil => 4,
         Constant::WeakLine => 5,
         Constant::ExpandParent => 6,
         Constant::LineOrSpace => 7,
         Constant::LineOrNil => 8,
         Constant::SoftLineOrSpace => 9,
-        Constant::SoftLineOrNil => 10,
+        Constant::HardLine => 10,
     }
 }
 
@@ -87,6 +105,49 @@ pub(crate) fn find<'a>(table: &'a [RefDoc<'a>], which: Constant) -> Option<RefDo
     ensures settled { IfSome result (λ p. holds_memory (out-RefDoc p).0.now ≡ false) }
 {
     table.get(index_of(which)).copied()
+}
+
+// Whether a pointer leads to a line break.
+#[inline(always)]
+fn is_hard_line<'a>(pointer: RefDoc<'a>) -> bool
+    ensures { IsTrue result → ref_tree pointer.entry ≡ HardLine }
+{
+    matches!(pointer.doc(), Doc::HardLine)
+}
+
+// Whether a pointer leads to one space.
+#[inline(always)]
+fn is_space<'a>(pointer: RefDoc<'a>) -> bool
+    ensures { IsTrue result → ref_tree pointer.entry ≡ space }
+{
+    match pointer.doc() {
+        Doc::Text(Text::Borrowed(text)) => matches!(text.as_bytes(), [b' ']),
+        _ => false,
+    }
+}
+
+// Whether a pointer leads to nothing.
+#[inline(always)]
+fn is_nil<'a>(pointer: RefDoc<'a>) -> bool
+    ensures { IsTrue result → ref_tree pointer.entry ≡ Nil }
+{
+    matches!(pointer.doc(), Doc::Nil)
+}
+
+// Whether these two are what a line is laid as, broken and flat.
+#[inline(always)]
+pub(crate) fn is_line<'a>(broken: RefDoc<'a>, flat: RefDoc<'a>) -> bool
+    ensures { IsTrue result → BreakOrFlat (ref_tree broken.entry) (ref_tree flat.entry) ≡ line }
+{
+    is_hard_line(broken) && is_space(flat)
+}
+
+// The same of a line that is nothing where it is flat.
+#[inline(always)]
+pub(crate) fn is_line_<'a>(broken: RefDoc<'a>, flat: RefDoc<'a>) -> bool
+    ensures { IsTrue result → BreakOrFlat (ref_tree broken.entry) (ref_tree flat.entry) ≡ line_ }
+{
+    is_hard_line(broken) && is_nil(flat)
 }
 
 // The constant that this node is, if it is one.

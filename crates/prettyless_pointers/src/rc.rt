@@ -9,7 +9,7 @@ ghost use Rattle.prettyless_pointers.specs.declared.children.Children.TheVariant
 ghost use Rattle.prettyless_pointers.specs.declared.rc.RcNode.{out-RcNode};
 
 use crate::children::{Children, into_children, take_first};
-use prettyless_doc::{BuildDoc, BuildError, Constant, Doc, DocPlace, DocPtr};
+use prettyless_doc::{BuildDoc, BuildError, Doc, DocPlace, DocPtr};
 use std::alloc::Global;
 use std::fmt;
 use std::rc::Rc;
@@ -180,11 +180,5 @@ impl<'a> DocPlace<'a> for RcAllocator {
 
     fn memory(&'a self) -> Global {
         self.memory
-    }
-
-    /// None: the last pointer to a node gives it up.
-    #[inline(always)]
-    fn constant(&'a self, _which: Constant) -> Option<RcDoc<'a>> {
-        None
     }
 }

@@ -3,36 +3,29 @@ use crate::arena::{CountedPlace, InArena, in_arena};
 use crate::expected::check;
 use bumpalo::Bump;
 use prettyless::text::{BuildError, Text};
-use prettyless::{Constant, Doc, DocAllocator, DocBuilder, DocPlace, DocPtr};
+use prettyless::{Doc, DocAllocator, DocBuilder, DocPlace, DocPtr};
 use std::process::Abort;
 use std::test::Fail;
 
-// Whether a place has one node for the constant.
-fn has<'a, D: DocPlace<'a>>(place: &'a D, which: Constant) -> bool {
-    place.constant(which).is_some()
-}
-
-// The place has the constant, and places nothing for a node that is the same.
+// The place has the leaf, and places nothing for it.
 fn place_leaf<'a, D: CountedPlace<'a>>(
     rt: &impl Abort,
     place: &'a D,
-    which: Constant,
     leaf: Doc<'a, D::Doc>,
 ) -> Result<(), Fail> {
-    check(rt, has(place, which), "the place", "a constant");
     place.alloc(leaf)?;
     check(rt, place.has_no_node(), "the nodes", "a constant");
     Ok(())
 }
 
 fn place_leaves<'a, D: CountedPlace<'a>>(rt: &impl Abort, place: &'a D) -> Result<(), Fail> {
-    place_leaf(rt, place, Constant::Nil, Doc::Nil)?;
-    place_leaf(rt, place, Constant::Fail, Doc::Fail)?;
-    place_leaf(rt, place, Constant::Space, Doc::Text(Text::Borrowed(" ")))?;
-    place_leaf(rt, place, Constant::WeakSpace, Doc::WeakSpace)?;
-    place_leaf(rt, place, Constant::HardLine, Doc::HardLine)?;
-    place_leaf(rt, place, Constant::WeakLine, Doc::WeakLine)?;
-    place_leaf(rt, place, Constant::ExpandParent, Doc::ExpandParent)
+    place_leaf(rt, place, Doc::Nil)?;
+    place_leaf(rt, place, Doc::Fail)?;
+    place_leaf(rt, place, Doc::Text(Text::Borrowed(" ")))?;
+    place_leaf(rt, place, Doc::WeakSpace)?;
+    place_leaf(rt, place, Doc::HardLine)?;
+    place_leaf(rt, place, Doc::WeakLine)?;
+    place_leaf(rt, place, Doc::ExpandParent)
 }
 
 fn place_built<'a, D: DocPlace<'a>>(
@@ -96,8 +89,6 @@ pub(crate) fn no_room_at_first<'a, D: CountedPlace<'a>>(
     bump: &Bump,
     place: &'a D,
 ) -> Result<(), Fail> {
-    let has_line = has(place, Constant::HardLine);
-    check(rt, !has_line, "the constant", "no room");
     check(rt, refuses_a_line(place), "the line", "no room");
     check(rt, place.has_no_node(), "the nodes", "no room");
     bump.set_allocation_limit(None);

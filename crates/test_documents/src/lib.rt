@@ -26,6 +26,8 @@ mod laws;
 #[cfg(test)]
 mod nodes;
 #[cfg(test)]
+mod own_place;
+#[cfg(test)]
 mod places;
 #[cfg(test)]
 mod pointers;

@@ -2,7 +2,7 @@
 use crate::expected::{points, rows, shows};
 use prettyless::prelude::*;
 use prettyless::text::{BuildError, CowStr, Text};
-use prettyless::{BuildDoc, Constant, Doc, DocBuilder};
+use prettyless::{BuildDoc, Doc, DocBuilder};
 use std::fmt;
 use std::process::Abort;
 
@@ -66,12 +66,12 @@ fn line_of_an_owned_space<'a, D: DocPlace<'a>>(place: &'a D) -> Result<D::Doc, B
     place.alloc(Doc::BreakOrFlat(broken, flat))
 }
 
-// What it is shown as: an arena has one node for each space, with a borrowed text.
-fn shown_line<'a, D: DocPlace<'a>>(place: &'a D) -> &'a str {
-    match place.constant(Constant::Space) {
-        Some(_) => "LineOrSpace",
-        None => "FlatOrBreak(\" \", HardLine)",
-    }
+// Compares what such a line is shown as: an arena copies the text of the space, and lends the copy to the node.
+pub(crate) fn owned_line<'a, D: DocPlace<'a>>(rt: &impl Abort, place: &'a D, text: &str)
+where
+    D::Doc: fmt::Debug,
+{
+    points(rt, place, line_of_an_owned_space(place), text);
 }
 
 pub(crate) fn placings<'a, D: DocPlace<'a>>(rt: &impl Abort, place: &'a D)
@@ -82,6 +82,5 @@ where
         place.alloc_cow(BuildDoc::Doc(Doc::HardLine)) => "HardLine";
         DocBuilder::new(place, Doc::WeakLine).into_doc() => "WeakLine";
         copied(rt, place) => "HardLine";
-        line_of_an_owned_space(place) => shown_line(place);
     }
 }

@@ -7,6 +7,9 @@ use prettyless::{Arena, BoxAllocator, Doc, DocBuilder, DocPtr, IntoRef, RcAlloca
 use std::fmt;
 use std::process::Abort;
 
+// A line that owns its space, where the node keeps it.
+const OWNED_LINE: &str = "FlatOrBreak(\" \", HardLine)";
+
 // The texts are of any type, since the proof of a call with `&str` takes much longer.
 fn each<'a, D: DocPlace<'a>, P: Pretty<'a, D> + Copy>(
     rt: &impl Abort,
@@ -53,6 +56,7 @@ fn in_boxes<'a, D: DocPlace<'a, Doc = T>, T: DocPtr<'a> + Pretty<'a, D> + fmt::D
 ) {
     all(rt, *place);
     nodes::placings(rt, place);
+    nodes::owned_line(rt, *place, OWNED_LINE);
     pointers::values(rt, *place);
     values::lent(rt, *place, owned);
     deep::chains(rt, *place);
@@ -71,6 +75,7 @@ where
     D::Doc: fmt::Debug,
 {
     all(rt, place);
+    nodes::owned_line(rt, place, OWNED_LINE);
     pointers::taken(rt, place);
     deep::chains(rt, place);
     deep::doubled(rt, place);
@@ -88,6 +93,7 @@ fn in_any_arena<'a, D: DocPlace<'a, Doc = T>, T: DocPtr<'a> + Pretty<'a, D> + fm
     place: &'a D,
 ) -> DocBuilder<'a, D> {
     all(rt, place);
+    nodes::owned_line(rt, place, "LineOrSpace");
     pointers::values(rt, place);
     DocBuilder::new(place, Doc::Text(Text::Borrowed("a")))
 }

@@ -1,6 +1,6 @@
 use Rattle.std.proofs.Common.{refl}
-use Rattle.prettyless_doc.specs.declared.constant.Constant.TheVariants.{Nil, Fail, Space, WeakSpace, HardLine, WeakLine, ExpandParent}
-use Rattle.prettyless_doc.specs.declared.constant.Constant.TheVariants.{LineOrSpace, LineOrNil, SoftLineOrSpace, SoftLineOrNil}
+use Rattle.prettyless_pointers.specs.declared.constants.Constant.TheVariants.{Nil, Fail, Space, WeakSpace, HardLine, WeakLine, ExpandParent}
+use Rattle.prettyless_pointers.specs.declared.constants.Constant.TheVariants.{LineOrSpace, LineOrNil, SoftLineOrSpace, SoftLineOrNil}
 use Rattle.prettyless_pointers.proofs.InPlace.{InOrder, is-table, leads, line-is, soft-line-is}
 use Rattle.prettyless_pointers.proofs.constants.table.Goals as goal
 
