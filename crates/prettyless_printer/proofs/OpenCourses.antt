@@ -200,203 +200,203 @@ turn_of E f has {a = a} b {t = t} z outer refused r same courses on =
     (courses (waiting_of t z) outer refused (is_in z on))
 
 module _ {N : Type 0} (E : Type 0) (f : N → Tree) {o : RenderOptions} {a0 : Place} (has : Bool) {refused : ℕ} {s : Trial} {y : Tree} {a : Point} (b : Point)
-    where
-  -- it goes on
-  pub course_goes : (us : List Held) → ComesInTrials o a0 has refused s y us a → a.printer.options ≡ o
-      → TrialTurns {E = E} f (below_all us) a b (Ok trial_state.Running) → TrialCourses {E = E} f (below_all us) has a b (Ok trial_state.Running)
-      → ComesInTrials o a0 has refused s y us b
-  course_goes [] now same turns courses = absurd now.trials
-  course_goes (u ∷ us) now same turns courses =
-      let k = now.trials in
-      let inner = chain_inner s us k.trial y [] k.chain in
-      record {
-        trials = record { holds = k.holds; trial = k.trial; chain = k.chain; on = (turns k.trial k.on).0 };
-        comes = subst (λ (v : List Waiting). Comes o a0 (place_at b.printer b.visits.probes (around v has refused))) (sym inner.is)
-            (come_then (at_inner k.trial inner.second inner.outer a.printer a.visits.probes has refused inner.is now.comes)
-            (turn_of E f has b inner.second inner.outer refused (Ok trial_state.Running) same courses k.on));
-      }
+  where
+    -- it goes on
+    pub course_goes : (us : List Held) → ComesInTrials o a0 has refused s y us a → a.printer.options ≡ o
+        → TrialTurns {E = E} f (below_all us) a b (Ok trial_state.Running) → TrialCourses {E = E} f (below_all us) has a b (Ok trial_state.Running)
+        → ComesInTrials o a0 has refused s y us b
+    course_goes [] now same turns courses = absurd now.trials
+    course_goes (u ∷ us) now same turns courses =
+        let k = now.trials in
+        let inner = chain_inner s us k.trial y [] k.chain in
+        record {
+          trials = record { holds = k.holds; trial = k.trial; chain = k.chain; on = (turns k.trial k.on).0 };
+          comes = subst (λ (v : List Waiting). Comes o a0 (place_at b.printer b.visits.probes (around v has refused))) (sym inner.is)
+              (come_then (at_inner k.trial inner.second inner.outer a.printer a.visits.probes has refused inner.is now.comes)
+              (turn_of E f has b inner.second inner.outer refused (Ok trial_state.Running) same courses k.on));
+        }
 
-  -- it stopped
-  pub course_stays : (us : List Held) → ComesInTrials o a0 has refused s y us a → a.printer.options ≡ o
-      → TrialTurns {E = E} f (below_all us) a b (Ok trial_state.Shift) → TrialCourses {E = E} f (below_all us) has a b (Ok trial_state.Shift)
-      → ComesInTrials o a0 has refused s y us b
-  course_stays [] now same turns courses = absurd now.trials
-  course_stays (u ∷ us) now same turns courses =
-      let k = now.trials in
-      let inner = chain_inner s us k.trial y [] k.chain in
-      record {
-        trials = record { holds = k.holds; trial = k.trial; chain = k.chain; on = turns k.trial k.on };
-        comes = subst (λ (v : List Waiting). Comes o a0 (place_at b.printer b.visits.probes (around v has refused))) (sym inner.is)
-            (come_then (at_inner k.trial inner.second inner.outer a.printer a.visits.probes has refused inner.is now.comes)
-            (turn_of E f has b inner.second inner.outer refused (Ok trial_state.Shift) same courses k.on));
-      }
+    -- it stopped
+    pub course_stays : (us : List Held) → ComesInTrials o a0 has refused s y us a → a.printer.options ≡ o
+        → TrialTurns {E = E} f (below_all us) a b (Ok trial_state.Shift) → TrialCourses {E = E} f (below_all us) has a b (Ok trial_state.Shift)
+        → ComesInTrials o a0 has refused s y us b
+    course_stays [] now same turns courses = absurd now.trials
+    course_stays (u ∷ us) now same turns courses =
+        let k = now.trials in
+        let inner = chain_inner s us k.trial y [] k.chain in
+        record {
+          trials = record { holds = k.holds; trial = k.trial; chain = k.chain; on = turns k.trial k.on };
+          comes = subst (λ (v : List Waiting). Comes o a0 (place_at b.printer b.visits.probes (around v has refused))) (sym inner.is)
+              (come_then (at_inner k.trial inner.second inner.outer a.printer a.visits.probes has refused inner.is now.comes)
+              (turn_of E f has b inner.second inner.outer refused (Ok trial_state.Shift) same courses k.on));
+        }
 
-  -- it was refused memory, in its turn or after it
-  pub course_error : (e : E) (us : List Held) → ComesInTrials o a0 has refused s y us a → a.printer.options ≡ o
-      → TrialCourses {E = E} f (below_all us) has a b (Err e) → StopsInPart o a0 b.visits.probes refused
-  course_error e [] now same courses = absurd now.trials
-  course_error e (u ∷ us) now same courses =
-      let k = now.trials in
-      let inner = chain_inner s us k.trial y [] k.chain in
-      stops_in_part_after (at_inner k.trial inner.second inner.outer a.printer a.visits.probes has refused inner.is now.comes)
-      (turn_of E f has b inner.second inner.outer refused (Err e) same courses k.on)
+    -- it was refused memory, in its turn or after it
+    pub course_error : (e : E) (us : List Held) → ComesInTrials o a0 has refused s y us a → a.printer.options ≡ o
+        → TrialCourses {E = E} f (below_all us) has a b (Err e) → StopsInPart o a0 b.visits.probes refused
+    course_error e [] now same courses = absurd now.trials
+    course_error e (u ∷ us) now same courses =
+        let k = now.trials in
+        let inner = chain_inner s us k.trial y [] k.chain in
+        stops_in_part_after (at_inner k.trial inner.second inner.outer a.printer a.visits.probes has refused inner.is now.comes)
+        (turn_of E f has b inner.second inner.outer refused (Err e) same courses k.on)
 
-  pub course_error_rejected : (us : List Held) → ComesInTrials o a0 has refused s y us a → a.printer.options ≡ o
-      → TrialCourses {E = E} f (below_all us) has a b (Ok trial_state.Rejected) → StopsInPart o a0 b.visits.probes refused
-  course_error_rejected [] now same courses = absurd now.trials
-  course_error_rejected (u ∷ us) now same courses =
-      let k = now.trials in
-      let inner = chain_inner s us k.trial y [] k.chain in
-      let stops = turn_of E f has b inner.second inner.outer refused (Ok trial_state.Rejected) same courses k.on in
-      stops_in_part_after (at_inner k.trial inner.second inner.outer a.printer a.visits.probes has refused inner.is now.comes)
-      (record { at = stops.at; comes = stops.comes; part = inl (sym stops.read); refusals = stops.refusals })
+    pub course_error_rejected : (us : List Held) → ComesInTrials o a0 has refused s y us a → a.printer.options ≡ o
+        → TrialCourses {E = E} f (below_all us) has a b (Ok trial_state.Rejected) → StopsInPart o a0 b.visits.probes refused
+    course_error_rejected [] now same courses = absurd now.trials
+    course_error_rejected (u ∷ us) now same courses =
+        let k = now.trials in
+        let inner = chain_inner s us k.trial y [] k.chain in
+        let stops = turn_of E f has b inner.second inner.outer refused (Ok trial_state.Rejected) same courses k.on in
+        stops_in_part_after (at_inner k.trial inner.second inner.outer a.printer a.visits.probes has refused inner.is now.comes)
+        (record { at = stops.at; comes = stops.comes; part = inl (sym stops.read); refusals = stops.refusals })
 
-  pub course_error_choice : (z : Choice N) (us : List Held) → ComesInTrials o a0 has refused s y us a → a.printer.options ≡ o
-      → TrialCourses {E = E} f (below_all us) has a b (Ok (trial_state.Choice z)) → StopsInPart o a0 b.visits.probes refused
-  course_error_choice z [] now same courses = absurd now.trials
-  course_error_choice z (u ∷ us) now same courses =
-      let k = now.trials in
-      let inner = chain_inner s us k.trial y [] k.chain in
-      let there = turn_of E f has b inner.second inner.outer refused (Ok (trial_state.Choice z)) same courses k.on in
-      stops_in_part_after (at_inner k.trial inner.second inner.outer a.printer a.visits.probes has refused inner.is now.comes) (refused_here there.comes)
+    pub course_error_choice : (z : Choice N) (us : List Held) → ComesInTrials o a0 has refused s y us a → a.printer.options ≡ o
+        → TrialCourses {E = E} f (below_all us) has a b (Ok (trial_state.Choice z)) → StopsInPart o a0 b.visits.probes refused
+    course_error_choice z [] now same courses = absurd now.trials
+    course_error_choice z (u ∷ us) now same courses =
+        let k = now.trials in
+        let inner = chain_inner s us k.trial y [] k.chain in
+        let there = turn_of E f has b inner.second inner.outer refused (Ok (trial_state.Choice z)) same courses k.on in
+        stops_in_part_after (at_inner k.trial inner.second inner.outer a.printer a.visits.probes has refused inner.is now.comes) (refused_here there.comes)
 
-  -- a trial more is open
-  pub course_more : (z : Choice N) {q : Standing} (us vs : List Held) → ComesInTrials o a0 has refused s y us a → a.printer.options ≡ o
-      → TrialTurns {E = E} f (below_all us) a b (Ok (trial_state.Choice z))
-      → TrialCourses {E = E} f (below_all us) has a b (Ok (trial_state.Choice z))
-      → Opens f z.indent (f z.second) b.printer b.sink us vs → BeginsTrial z.indent (f z.first) b.printer q → IsUtf8 (known b.sink.bytes)
-      → ComesInTrials o a0 has refused s y vs (point_at q b.sink b.visits)
-  unfolding more_inner
-  course_more z [] vs now same turns courses opens begins text = absurd now.trials
-  course_more z {q} (u ∷ us) vs now same turns courses opens begins text =
-      let k = now.trials in
-      let inner = chain_inner s us k.trial y [] k.chain in
-      let choice = (turns k.trial k.on).0 in
-      let w : Held = record { mark = opens.mark; indent = z.indent; second = f z.second } in
-      let t : Trial = make_trial b z.indent (f z.first) in
-      let marked : Marked opens.mark b = record { marks = opens.marks; is_known = choice.is_known; text = text } in
-      let link : Link k.trial w t = record { holds = record { indent = refl; second = refl; marked = marked }; choice = choice } in
-      let there = come_then (at_inner k.trial inner.second inner.outer a.printer a.visits.probes has refused inner.is now.comes)
-      (tried_follows b (turn_of E f has b inner.second inner.outer refused (Ok (trial_state.Choice z)) same courses k.on) begins) in
-      let waits = push_waits s us k.trial w t k.chain link (waiting_of s y ∷ [])
-      ∙ ap (λ (v : List Waiting). waiting_of t (f z.second) ∷ v) inner.is in
-      subst (λ (ws : List Held). ComesInTrials o a0 has refused s y ws (point_at q b.sink b.visits)) (sym opens.more)
-      (record {
-        trials = more_inner f u us z k choice opens.mark opens.marks begins text;
-        comes = subst (λ (v : List Waiting). Comes o a0 (place_at q b.visits.probes (around v has refused))) (sym waits) there;
-      })
+    -- a trial more is open
+    pub course_more : (z : Choice N) {q : Standing} (us vs : List Held) → ComesInTrials o a0 has refused s y us a → a.printer.options ≡ o
+        → TrialTurns {E = E} f (below_all us) a b (Ok (trial_state.Choice z))
+        → TrialCourses {E = E} f (below_all us) has a b (Ok (trial_state.Choice z))
+        → Opens f z.indent (f z.second) b.printer b.sink us vs → BeginsTrial z.indent (f z.first) b.printer q → IsUtf8 (known b.sink.bytes)
+        → ComesInTrials o a0 has refused s y vs (point_at q b.sink b.visits)
+    unfolding more_inner
+    course_more z [] vs now same turns courses opens begins text = absurd now.trials
+    course_more z {q} (u ∷ us) vs now same turns courses opens begins text =
+        let k = now.trials in
+        let inner = chain_inner s us k.trial y [] k.chain in
+        let choice = (turns k.trial k.on).0 in
+        let w : Held = record { mark = opens.mark; indent = z.indent; second = f z.second } in
+        let t : Trial = make_trial b z.indent (f z.first) in
+        let marked : Marked opens.mark b = record { marks = opens.marks; is_known = choice.is_known; text = text } in
+        let link : Link k.trial w t = record { holds = record { indent = refl; second = refl; marked = marked }; choice = choice } in
+        let there = come_then (at_inner k.trial inner.second inner.outer a.printer a.visits.probes has refused inner.is now.comes)
+        (tried_follows b (turn_of E f has b inner.second inner.outer refused (Ok (trial_state.Choice z)) same courses k.on) begins) in
+        let waits = push_waits s us k.trial w t k.chain link (waiting_of s y ∷ [])
+        ∙ ap (λ (v : List Waiting). waiting_of t (f z.second) ∷ v) inner.is in
+        subst (λ (ws : List Held). ComesInTrials o a0 has refused s y ws (point_at q b.sink b.visits)) (sym opens.more)
+        (record {
+          trials = more_inner f u us z k choice opens.mark opens.marks begins text;
+          comes = subst (λ (v : List Waiting). Comes o a0 (place_at q b.visits.probes (around v has refused))) (sym waits) there;
+        })
 
-  -- an inner one is kept
-  course_kept_inner : {r : Standing} (v : Held) (vs : List Held) (u : Held) → ComesInTrials o a0 has refused s y (v ∷ vs ++ u ∷ []) a
-      → a.printer.options ≡ o → TrialTurns {E = E} f (below_all (v ∷ vs ++ u ∷ [])) a b (Ok trial_state.Complete)
-      → TrialCourses {E = E} f (below_all (v ∷ vs ++ u ∷ [])) has a b (Ok trial_state.Complete)
-      → Flagged u.mark.within b.printer r → ComesInTrials o a0 has refused s y (v ∷ vs) (point_at r b.sink b.visits)
-  unfolding kept_inner
-  course_kept_inner {r} v vs u now same turns courses flagged =
-      let k = now.trials in
-      let t = k.trial in
-      let p = chain_pop s vs u t k.chain in
-      let outer = chain_waits s vs p.trial p.chain (waiting_of s y ∷ []) in
-      let is = pop_waits s vs u t k.chain (waiting_of s y ∷ []) in
-      let lasts = (turns t k.on).0 in
-      record {
-        trials = kept_inner {E = E} {f = f} v vs u (record { trials = k; courses = turns }) flagged;
-        comes = come_then (at_inner t u.second outer a.printer a.visits.probes has refused is now.comes)
-            (come_then (turn_of E f has b u.second outer refused (Ok trial_state.Complete) same courses k.on)
-            (kept_follows (lasts.path.options ∙ sym k.on.path.options ∙ same) refl p.link.holds.marked lasts flagged));
-      }
+    -- an inner one is kept
+    course_kept_inner : {r : Standing} (v : Held) (vs : List Held) (u : Held) → ComesInTrials o a0 has refused s y (v ∷ vs ++ u ∷ []) a
+        → a.printer.options ≡ o → TrialTurns {E = E} f (below_all (v ∷ vs ++ u ∷ [])) a b (Ok trial_state.Complete)
+        → TrialCourses {E = E} f (below_all (v ∷ vs ++ u ∷ [])) has a b (Ok trial_state.Complete)
+        → Flagged u.mark.within b.printer r → ComesInTrials o a0 has refused s y (v ∷ vs) (point_at r b.sink b.visits)
+    unfolding kept_inner
+    course_kept_inner {r} v vs u now same turns courses flagged =
+        let k = now.trials in
+        let t = k.trial in
+        let p = chain_pop s vs u t k.chain in
+        let outer = chain_waits s vs p.trial p.chain (waiting_of s y ∷ []) in
+        let is = pop_waits s vs u t k.chain (waiting_of s y ∷ []) in
+        let lasts = (turns t k.on).0 in
+        record {
+          trials = kept_inner {E = E} {f = f} v vs u (record { trials = k; courses = turns }) flagged;
+          comes = come_then (at_inner t u.second outer a.printer a.visits.probes has refused is now.comes)
+              (come_then (turn_of E f has b u.second outer refused (Ok trial_state.Complete) same courses k.on)
+              (kept_follows (lasts.path.options ∙ sym k.on.path.options ∙ same) refl p.link.holds.marked lasts flagged));
+        }
 
-  pub course_kept : {us : List Held} {r : Standing} (vs : List Held) (u : Held) → us ≡ vs ++ u ∷ [] → 0 < length vs
-      → ComesInTrials o a0 has refused s y us a → a.printer.options ≡ o → TrialTurns {E = E} f (below_all us) a b (Ok trial_state.Complete)
-      → TrialCourses {E = E} f (below_all us) has a b (Ok trial_state.Complete) → Flagged u.mark.within b.printer r
-      → ComesInTrials o a0 has refused s y vs (point_at r b.sink b.visits)
-  course_kept [] u popped some now same turns courses flagged = absurd (omega (arith, some))
-  course_kept (v ∷ vs) u popped some now same turns courses flagged =
-      course_kept_inner v vs u (subst (λ (z : List Held). ComesInTrials o a0 has refused s y z a) popped now) same
-      (subst (λ (z : List Held). TrialTurns {E = E} f (below_all z) a b (Ok trial_state.Complete)) popped turns)
-      (subst (λ (z : List Held). TrialCourses {E = E} f (below_all z) has a b (Ok trial_state.Complete)) popped courses) flagged
+    pub course_kept : {us : List Held} {r : Standing} (vs : List Held) (u : Held) → us ≡ vs ++ u ∷ [] → 0 < length vs
+        → ComesInTrials o a0 has refused s y us a → a.printer.options ≡ o → TrialTurns {E = E} f (below_all us) a b (Ok trial_state.Complete)
+        → TrialCourses {E = E} f (below_all us) has a b (Ok trial_state.Complete) → Flagged u.mark.within b.printer r
+        → ComesInTrials o a0 has refused s y vs (point_at r b.sink b.visits)
+    course_kept [] u popped some now same turns courses flagged = absurd (omega (arith, some))
+    course_kept (v ∷ vs) u popped some now same turns courses flagged =
+        course_kept_inner v vs u (subst (λ (z : List Held). ComesInTrials o a0 has refused s y z a) popped now) same
+        (subst (λ (z : List Held). TrialTurns {E = E} f (below_all z) a b (Ok trial_state.Complete)) popped turns)
+        (subst (λ (z : List Held). TrialCourses {E = E} f (below_all z) has a b (Ok trial_state.Complete)) popped courses) flagged
 
-  -- the outermost one is kept
-  course_kept_outer : {r : Standing} (u : Held) → ComesInTrials o a0 has refused s y (u ∷ []) a
-      → a.printer.options ≡ o → TrialTurns {E = E} f (below_all (u ∷ [])) a b (Ok trial_state.Complete)
-      → TrialCourses {E = E} f (below_all (u ∷ [])) has a b (Ok trial_state.Complete)
-      → Flagged u.mark.within b.printer r → Comes o a0 (place_at r b.visits.probes (around [] has refused))
-  course_kept_outer u now same turns courses flagged =
-      let k = now.trials in
-      let lasts = (turns k.trial k.on).0 in
-      come_then (at_inner k.trial y [] a.printer a.visits.probes has refused (ap (λ (x : Trial). waiting_of x y ∷ []) (sym k.chain)) now.comes)
-      (come_then (turn_of E f has b y [] refused (Ok trial_state.Complete) same courses k.on)
-      (kept_follows (lasts.path.options ∙ sym k.on.path.options ∙ same) refl
-      (subst (λ (x : Trial). Marked u.mark x.start) (sym k.chain) k.holds.marked) lasts flagged))
+    -- the outermost one is kept
+    course_kept_outer : {r : Standing} (u : Held) → ComesInTrials o a0 has refused s y (u ∷ []) a
+        → a.printer.options ≡ o → TrialTurns {E = E} f (below_all (u ∷ [])) a b (Ok trial_state.Complete)
+        → TrialCourses {E = E} f (below_all (u ∷ [])) has a b (Ok trial_state.Complete)
+        → Flagged u.mark.within b.printer r → Comes o a0 (place_at r b.visits.probes (around [] has refused))
+    course_kept_outer u now same turns courses flagged =
+        let k = now.trials in
+        let lasts = (turns k.trial k.on).0 in
+        come_then (at_inner k.trial y [] a.printer a.visits.probes has refused (ap (λ (x : Trial). waiting_of x y ∷ []) (sym k.chain)) now.comes)
+        (come_then (turn_of E f has b y [] refused (Ok trial_state.Complete) same courses k.on)
+        (kept_follows (lasts.path.options ∙ sym k.on.path.options ∙ same) refl
+        (subst (λ (x : Trial). Marked u.mark x.start) (sym k.chain) k.holds.marked) lasts flagged))
 
-  pub course_kept_last : {us : List Held} {r : Standing} (vs : List Held) (u : Held) → us ≡ vs ++ u ∷ [] → vs ≡ []
-      → ComesInTrials o a0 has refused s y us a → a.printer.options ≡ o → TrialTurns {E = E} f (below_all us) a b (Ok trial_state.Complete)
-      → TrialCourses {E = E} f (below_all us) has a b (Ok trial_state.Complete) → Flagged u.mark.within b.printer r
-      → Comes o a0 (place_at r b.visits.probes (around [] has refused))
-  course_kept_last vs u popped none now same turns courses flagged =
-      let only = popped ∙ ap (λ (z : List Held). z ++ u ∷ []) none in
-      course_kept_outer u (subst (λ (z : List Held). ComesInTrials o a0 has refused s y z a) only now) same
-      (subst (λ (z : List Held). TrialTurns {E = E} f (below_all z) a b (Ok trial_state.Complete)) only turns)
-      (subst (λ (z : List Held). TrialCourses {E = E} f (below_all z) has a b (Ok trial_state.Complete)) only courses) flagged
+    pub course_kept_last : {us : List Held} {r : Standing} (vs : List Held) (u : Held) → us ≡ vs ++ u ∷ [] → vs ≡ []
+        → ComesInTrials o a0 has refused s y us a → a.printer.options ≡ o → TrialTurns {E = E} f (below_all us) a b (Ok trial_state.Complete)
+        → TrialCourses {E = E} f (below_all us) has a b (Ok trial_state.Complete) → Flagged u.mark.within b.printer r
+        → Comes o a0 (place_at r b.visits.probes (around [] has refused))
+    course_kept_last vs u popped none now same turns courses flagged =
+        let only = popped ∙ ap (λ (z : List Held). z ++ u ∷ []) none in
+        course_kept_outer u (subst (λ (z : List Held). ComesInTrials o a0 has refused s y z a) only now) same
+        (subst (λ (z : List Held). TrialTurns {E = E} f (below_all z) a b (Ok trial_state.Complete)) only turns)
+        (subst (λ (z : List Held). TrialCourses {E = E} f (below_all z) has a b (Ok trial_state.Complete)) only courses) flagged
 
-  -- an inner one is undone
-  course_back_inner : {q : Standing} {w : Seen} (v : Held) (vs : List Held) (u : Held) (r : Standing)
-      → ComesInTrials o a0 has refused s y (v ∷ vs ++ u ∷ []) a
-      → a.printer.options ≡ o → TrialTurns {E = E} f (below_all (v ∷ vs ++ u ∷ [])) a b (Ok trial_state.Rejected)
-      → TrialCourses {E = E} f (below_all (v ∷ vs ++ u ∷ [])) has a b (Ok trial_state.Rejected)
-      → Restores u.mark b.printer r → CutBack u.mark b.sink w → Pushed (make_task u.indent Break u.second) r q
-      → ComesInTrials o a0 has refused s y (v ∷ vs) (point_at q w b.visits)
-  unfolding back_inner
-  course_back_inner v vs u r now same turns courses back cut pushed =
-      let k = now.trials in
-      let t = k.trial in
-      let p = chain_pop s vs u t k.chain in
-      let outer = chain_waits s vs p.trial p.chain (waiting_of s y ∷ []) in
-      let is = pop_waits s vs u t k.chain (waiting_of s y ∷ []) in
-      record {
-        trials = back_inner {E = E} {f = f} v vs u r (record { trials = k; courses = turns }) back cut pushed;
-        comes = come_then (at_inner t u.second outer a.printer a.visits.probes has refused is now.comes)
-            (undone_follows (turn_of E f has b u.second outer refused (Ok trial_state.Rejected) same courses k.on) p.link.holds.marked
-            p.link.holds.indent (turns t k.on) back pushed);
-      }
+    -- an inner one is undone
+    course_back_inner : {q : Standing} {w : Seen} (v : Held) (vs : List Held) (u : Held) (r : Standing)
+        → ComesInTrials o a0 has refused s y (v ∷ vs ++ u ∷ []) a
+        → a.printer.options ≡ o → TrialTurns {E = E} f (below_all (v ∷ vs ++ u ∷ [])) a b (Ok trial_state.Rejected)
+        → TrialCourses {E = E} f (below_all (v ∷ vs ++ u ∷ [])) has a b (Ok trial_state.Rejected)
+        → Restores u.mark b.printer r → CutBack u.mark b.sink w → Pushed (make_task u.indent Break u.second) r q
+        → ComesInTrials o a0 has refused s y (v ∷ vs) (point_at q w b.visits)
+    unfolding back_inner
+    course_back_inner v vs u r now same turns courses back cut pushed =
+        let k = now.trials in
+        let t = k.trial in
+        let p = chain_pop s vs u t k.chain in
+        let outer = chain_waits s vs p.trial p.chain (waiting_of s y ∷ []) in
+        let is = pop_waits s vs u t k.chain (waiting_of s y ∷ []) in
+        record {
+          trials = back_inner {E = E} {f = f} v vs u r (record { trials = k; courses = turns }) back cut pushed;
+          comes = come_then (at_inner t u.second outer a.printer a.visits.probes has refused is now.comes)
+              (undone_follows (turn_of E f has b u.second outer refused (Ok trial_state.Rejected) same courses k.on) p.link.holds.marked
+              p.link.holds.indent (turns t k.on) back pushed);
+        }
 
-  pub course_other : {us : List Held} {q : Standing} {w : Seen} (vs : List Held) (u : Held) (r : Standing) → us ≡ vs ++ u ∷ []
-      → 0 < length vs → ComesInTrials o a0 has refused s y us a → a.printer.options ≡ o
-      → TrialTurns {E = E} f (below_all us) a b (Ok trial_state.Rejected)
-      → TrialCourses {E = E} f (below_all us) has a b (Ok trial_state.Rejected)
-      → Restores u.mark b.printer r → CutBack u.mark b.sink w → Pushed (make_task u.indent Break u.second) r q
-      → ComesInTrials o a0 has refused s y vs (point_at q w b.visits)
-  course_other [] u r popped some now same turns courses back cut pushed = absurd (omega (arith, some))
-  course_other (v ∷ vs) u r popped some now same turns courses back cut pushed =
-      course_back_inner v vs u r (subst (λ (z : List Held). ComesInTrials o a0 has refused s y z a) popped now) same
-      (subst (λ (z : List Held). TrialTurns {E = E} f (below_all z) a b (Ok trial_state.Rejected)) popped turns)
-      (subst (λ (z : List Held). TrialCourses {E = E} f (below_all z) has a b (Ok trial_state.Rejected)) popped courses) back cut pushed
+    pub course_other : {us : List Held} {q : Standing} {w : Seen} (vs : List Held) (u : Held) (r : Standing) → us ≡ vs ++ u ∷ []
+        → 0 < length vs → ComesInTrials o a0 has refused s y us a → a.printer.options ≡ o
+        → TrialTurns {E = E} f (below_all us) a b (Ok trial_state.Rejected)
+        → TrialCourses {E = E} f (below_all us) has a b (Ok trial_state.Rejected)
+        → Restores u.mark b.printer r → CutBack u.mark b.sink w → Pushed (make_task u.indent Break u.second) r q
+        → ComesInTrials o a0 has refused s y vs (point_at q w b.visits)
+    course_other [] u r popped some now same turns courses back cut pushed = absurd (omega (arith, some))
+    course_other (v ∷ vs) u r popped some now same turns courses back cut pushed =
+        course_back_inner v vs u r (subst (λ (z : List Held). ComesInTrials o a0 has refused s y z a) popped now) same
+        (subst (λ (z : List Held). TrialTurns {E = E} f (below_all z) a b (Ok trial_state.Rejected)) popped turns)
+        (subst (λ (z : List Held). TrialCourses {E = E} f (below_all z) has a b (Ok trial_state.Rejected)) popped courses) back cut pushed
 
-  -- the outermost one is undone
-  course_back_outer : {q : Standing} (u : Held) (r : Standing) → ComesInTrials o a0 has refused s y (u ∷ []) a
-      → a.printer.options ≡ o → TrialTurns {E = E} f (below_all (u ∷ [])) a b (Ok trial_state.Rejected)
-      → TrialCourses {E = E} f (below_all (u ∷ [])) has a b (Ok trial_state.Rejected)
-      → Restores u.mark b.printer r → Pushed (make_task u.indent Break u.second) r q
-      → Comes o a0 (place_at q b.visits.probes (around [] has refused))
-  course_back_outer {q} u r now same turns courses back pushed =
-      let k = now.trials in
-      come_then (at_inner k.trial y [] a.printer a.visits.probes has refused (ap (λ (x : Trial). waiting_of x y ∷ []) (sym k.chain)) now.comes)
-      (undone_follows (turn_of E f has b y [] refused (Ok trial_state.Rejected) same courses k.on)
-      (subst (λ (x : Trial). Marked u.mark x.start) (sym k.chain) k.holds.marked)
-      (k.holds.indent ∙ ap (λ (x : Trial). x.indent) (sym k.chain)) (turns k.trial k.on) back
-      (subst (λ (d : Tree). Pushed (make_task u.indent Break d) r q) k.holds.second pushed))
+    -- the outermost one is undone
+    course_back_outer : {q : Standing} (u : Held) (r : Standing) → ComesInTrials o a0 has refused s y (u ∷ []) a
+        → a.printer.options ≡ o → TrialTurns {E = E} f (below_all (u ∷ [])) a b (Ok trial_state.Rejected)
+        → TrialCourses {E = E} f (below_all (u ∷ [])) has a b (Ok trial_state.Rejected)
+        → Restores u.mark b.printer r → Pushed (make_task u.indent Break u.second) r q
+        → Comes o a0 (place_at q b.visits.probes (around [] has refused))
+    course_back_outer {q} u r now same turns courses back pushed =
+        let k = now.trials in
+        come_then (at_inner k.trial y [] a.printer a.visits.probes has refused (ap (λ (x : Trial). waiting_of x y ∷ []) (sym k.chain)) now.comes)
+        (undone_follows (turn_of E f has b y [] refused (Ok trial_state.Rejected) same courses k.on)
+        (subst (λ (x : Trial). Marked u.mark x.start) (sym k.chain) k.holds.marked)
+        (k.holds.indent ∙ ap (λ (x : Trial). x.indent) (sym k.chain)) (turns k.trial k.on) back
+        (subst (λ (d : Tree). Pushed (make_task u.indent Break d) r q) k.holds.second pushed))
 
-  pub course_other_last : {us : List Held} {q : Standing} (vs : List Held) (u : Held) (r : Standing) → us ≡ vs ++ u ∷ [] → vs ≡ []
-      → ComesInTrials o a0 has refused s y us a → a.printer.options ≡ o
-      → TrialTurns {E = E} f (below_all us) a b (Ok trial_state.Rejected)
-      → TrialCourses {E = E} f (below_all us) has a b (Ok trial_state.Rejected)
-      → Restores u.mark b.printer r → Pushed (make_task u.indent Break u.second) r q
-      → Comes o a0 (place_at q b.visits.probes (around [] has refused))
-  course_other_last vs u r popped none now same turns courses back pushed =
-      let only = popped ∙ ap (λ (z : List Held). z ++ u ∷ []) none in
-      course_back_outer u r (subst (λ (z : List Held). ComesInTrials o a0 has refused s y z a) only now) same
-      (subst (λ (z : List Held). TrialTurns {E = E} f (below_all z) a b (Ok trial_state.Rejected)) only turns)
-      (subst (λ (z : List Held). TrialCourses {E = E} f (below_all z) has a b (Ok trial_state.Rejected)) only courses) back pushed
+    pub course_other_last : {us : List Held} {q : Standing} (vs : List Held) (u : Held) (r : Standing) → us ≡ vs ++ u ∷ [] → vs ≡ []
+        → ComesInTrials o a0 has refused s y us a → a.printer.options ≡ o
+        → TrialTurns {E = E} f (below_all us) a b (Ok trial_state.Rejected)
+        → TrialCourses {E = E} f (below_all us) has a b (Ok trial_state.Rejected)
+        → Restores u.mark b.printer r → Pushed (make_task u.indent Break u.second) r q
+        → Comes o a0 (place_at q b.visits.probes (around [] has refused))
+    course_other_last vs u r popped none now same turns courses back pushed =
+        let only = popped ∙ ap (λ (z : List Held). z ++ u ∷ []) none in
+        course_back_outer u r (subst (λ (z : List Held). ComesInTrials o a0 has refused s y z a) only now) same
+        (subst (λ (z : List Held). TrialTurns {E = E} f (below_all z) a b (Ok trial_state.Rejected)) only turns)
+        (subst (λ (z : List Held). TrialCourses {E = E} f (below_all z) has a b (Ok trial_state.Rejected)) only courses) back pushed
 
 -- ---- By other names
 

@@ -464,4 +464,3 @@ returns-in_err-open_trial-in-Choice-clause-course g c =
     (part_at (ap (λ (r : Run _). r.visits.probes) c.open_trial.ensures.others)
     (course_error_choice AllocError f g.N.Walk.HAS_SUMMARIES (trial_point f c.advance.new.self) c.in-Choice.choice (held_of f c.work.self) now
     (options_at f s y c.args.self.now c.work.self h now.trials) (rw c.in-Choice.is at c.in_ok-advance.ensures.course)))
-
