@@ -8,13 +8,13 @@ use Rattle.prettyless_model.specs.Layout.{State, flushed}
 use Rattle.prettyless_probe.specs.Stack.{Task, make_task, nodes, follow, tasks}
 use Rattle.prettyless_probe.proofs.Sizes.{size_positive}
 use Rattle.prettyless_probe.specs.Sums.{AllSummed, HaveSummaries, TreesHaveSummaries}
-use Rattle.prettyless_step.specs.Steps.{Step, StepHasSummaries, Move, Stuck, Choose}
+use Rattle.prettyless_step.specs.Steps.{Step, Move, Stuck, Choose}
 use Rattle.prettyless_step.specs.Printing.{Descends, Shows}
 use Rattle.prettyless_step.specs.declared.printer.Printer.{Printer}
 use Rattle.prettyless_step.specs.declared.printer.StepResult.TheVariants.{Failed, Choice}
 use Rattle.prettyless_step.specs.declared.queue.Queue.{Queue}
 use Rattle.prettyless_step.proofs.Shown.{StepsTo, IsChoice}
-use Rattle.prettyless_step.proofs.Summaries.{step_has}
+use Rattle.prettyless_step.proofs.Summaries.{StepHasSummaries, step_has}
 use Rattle.prettyless_printer.specs.Points.{Standing, standing, state_at, Seen, Point}
 use Rattle.prettyless_printer.specs.Spending.{Rule}
 use Rattle.prettyless_printer.specs.declared.run.Run.{Run}

@@ -4,7 +4,7 @@ use Rattle.std.proofs.Common.{length-append, IsSome}
 use Rattle.prettyless_sink.specs.Sink.{known}
 use Rattle.prettyless_model.specs.declared.options.RenderOptions.{RenderOptions}
 use Rattle.prettyless_model.specs.Column.{padding_fits}
-use Rattle.prettyless_model.specs.Layout.{State, some_pending}
+use Rattle.prettyless_model.specs.Layout.{Outcome, State, accept, some_pending}
 use Rattle.prettyless_model.specs.declared.mode.Mode.TheVariants.{Break}
 use Rattle.prettyless_model.specs.Content.{suffix_depth}
 use Rattle.prettyless_model.specs.Tree.{Tree, size}
@@ -20,12 +20,12 @@ use Rattle.prettyless_printer.specs.Paths.{BeganPlain, Path}
 use Rattle.prettyless_printer.specs.Turns.{Advances, TurnHolds}
 use Rattle.prettyless_printer.specs.declared.answer.Choice.{Choice}
 use Rattle.prettyless_printer.specs.declared.answer.TurnResult.TheVariants as turn_result
-use Rattle.prettyless_printer.proofs.PathSteps.{at_run, path_to_choice, goes_on, stops}
+use Rattle.prettyless_printer.proofs.PathSteps.{at_failing, at_run, path_to_choice, goes_on, stops}
 use Rattle.prettyless_printer.proofs.Progresses.{inside_past}
 use Rattle.prettyless_printer.proofs.Standings.{Flagged}
 use Rattle.prettyless_printer.proofs.Within.{accept_past}
-use Rattle.prettyless_printer.proofs.Trying.{padding_decides, trial_ends, trying_begins, trial_rejected, trial_kept}
-use Rattle.prettyless_printer.proofs.Visits.{rise_same, at_most_all, at_most_same, at_most_at, at_most_cut}
+use Rattle.prettyless_printer.proofs.Trying.{begins-grows, padding_decides, trial_ends, trying_begins, trial_rejected, trial_kept}
+use Rattle.prettyless_printer.proofs.Visits.{rise_same, rise_then, at_most_all, at_most_same, at_most_at, at_most_cut, at_most_then}
 use Rattle.prettyless_printer.proofs.Visits.{plain_at, plain_push}
 use Rattle.prettyless_printer.proofs.AtLeast.{at_least_end, trial_begins}
 
@@ -99,6 +99,31 @@ trial_turn_exceeds f {t} on l h past =
           (inside_past e past);
       rise = path.rise;
       at_most = λ began. (path.at_most began).1;
+    }
+
+-- a turn at a node that fails
+pub trial_turn_failed : {N E : Type 0} (f : N → Tree) {t : Trial} {below : ℕ} {a b : Point} → TrialRunning t below a
+    → below < length a.printer.tasks → Advances {N = N} {E = E} f a b (Ok turn_result.Failed) → TrialRejected t b
+trial_turn_failed f {t} {below} {a} {b} on l h =
+    let p = t.start.printer in
+    let path = on.path in
+    let k = at_failing f path (omega (arith, l, on.height)) h on.is_known in
+    let z = k.1.0 in
+    record {
+      above = z.1;
+      stack = z.4;
+      options = h.options ∙ path.options;
+      grows = begins-grows p.queue a.printer b.printer path.queue h.grows;
+      same_lender = h.same_lender ∙ path.same_lender;
+      is_known = k.0;
+      bytes = z.0;
+      wrote = z.2;
+      failures = k.1.1;
+      rejected = λ other. ap (λ (x : Outcome). accept p.options p.within x other) z.3;
+      rise = rise_then path.rise h.rise;
+      at_most = λ began.
+          let y = path.at_most began in
+          at_most_then y.1 (h.at_most y.0);
     }
 
 -- a turn after which two branches are to be chosen from

@@ -1,5 +1,4 @@
 use Rattle.std.proofs.Common.{◌∷◌, refl, Bool, arith, ap, sym, ◌∙◌, rules}
-use Rattle.std.proofs.lemmas.Grind.{common_steps}
 use Rattle.prettyless_model.specs.Column.{padding_fits}
 use Rattle.prettyless_printer.specs.Points.{standing}
 use Rattle.prettyless_printer.specs.CourseOf.{around}
@@ -7,7 +6,7 @@ use Rattle.prettyless_printer.proofs.Courses.{come_same}
 use Rattle.prettyless_printer.proofs.OpenCourses.{error_in_part, goes_in, rejected_at_end, rejected_failed, rejected_past}
 use Rattle.prettyless_printer.proofs.Standings.{pending_stands}
 use Rattle.prettyless_printer.proofs.TrialSteps.{trial_end_complete, trial_end_exceeds, trial_turn_running, trial_turn_exceeds}
-use Rattle.prettyless_printer.proofs.TrialSteps.{trial_turn_choice, trial_turn_shift}
+use Rattle.prettyless_printer.proofs.TrialSteps.{trial_turn_choice, trial_turn_failed, trial_turn_shift}
 use Rattle.prettyless_printer.proofs.run.Run.advance.Goals as goal
 
 -- at the end of the branch the padding fits
@@ -51,8 +50,11 @@ returns-in-Ok-Shift-clause-courses g c = λ t on.
     trial_turn_shift g.N.Walk.tree on (omega (arith, c.if-len-below.false, c.len.ensures, c.below.ensures))
     (rw c.in-Ok-Shift.field-0-is at c.in-Ok-Shift.ensures.advances)
 
+-- a node fails
 pub returns-in-Ok-Failed-clause-courses : goal.returns-in-Ok-Failed-clause-courses
-returns-in-Ok-Failed-clause-courses g c = grind (arith, common_steps)
+returns-in-Ok-Failed-clause-courses g c = λ t on.
+    trial_turn_failed g.N.Walk.tree on (omega (arith, c.if-len-below.false, c.len.ensures, c.below.ensures))
+    (rw c.in-Ok-Failed.field-0-is at c.in-Ok-Failed.ensures.advances)
 
 pub returns-in-Err-clause-courses : goal.returns-in-Err-clause-courses
 returns-in-Err-clause-courses g c = search rules
