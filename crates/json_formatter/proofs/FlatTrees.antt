@@ -4,10 +4,10 @@ use Rattle.std.proofs.Common.{length, append_assoc, append-nil, inl, inr, arith}
 use Rattle.std.specs.Prelude.{pos}
 use Rattle.json.specs.Word.{ends_word}
 use Rattle.prettyless_model.specs.Metrics.{text_width}
-use Rattle.prettyless.specs.Built.{IsNotNil, append, nest}
-use Rattle.prettyless.specs.Counted.{text}
-use Rattle.prettyless.specs.Lines.{space}
-use Rattle.prettyless.specs.Tree.{Tree, Text, Append, Group}
+use Rattle.prettyless_model.specs.Built.{IsNotNil, append, nest}
+use Rattle.prettyless_model.specs.Counted.{text}
+use Rattle.prettyless_model.specs.Lines.{space}
+use Rattle.prettyless_model.specs.Tree.{Tree, Text, Append, Group}
 use Rattle.json_formatter.specs.declared.style.Style.{Style}
 use Rattle.json_formatter.specs.ByValue.{brace_blank, flat, item_comma, items_fill, items_kept, kept_if, member_comma, members_kept}
 use Rattle.json_formatter.specs.ByValue.{more_flat_items, more_flat_members, value_width}

@@ -2,7 +2,7 @@
 use Rattle.std.proofs.Common.{◌≡◌, refl, ap, ℕ, zero, suc, ◌≤◌, true, false, List, [], ◌∷◌, length, drop, length-drop, inl, inr, ◌⊎◌, arith}
 use Rattle.std.proofs.lemmas.Bool.{cases_Bool}
 use Rattle.json.specs.Ascii as ascii
-use Rattle.prettyless.specs.Tree.{Tree, Nil}
+use Rattle.prettyless_model.specs.Tree.{Tree, Nil}
 use Rattle.json_formatter.specs.declared.style.Style.{Style}
 use Rattle.json_formatter.specs.Documents.{Read, Reader, read, next_is, is_json_sign, opens, closes, lexeme_alone, with_value, with_comma}
 use Rattle.json_formatter.specs.Documents.{list_member, list_members, list_or_lexeme, value}

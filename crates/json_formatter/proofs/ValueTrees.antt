@@ -5,10 +5,10 @@ use Rattle.std.specs.Prelude.{pos}
 use Rattle.std.proofs.lemmas.Bool.{or_parts}
 use Rattle.json.specs.Ascii as ascii
 use Rattle.json.specs.Word.{is_operator, is_space, head, ends_word}
-use Rattle.prettyless.specs.Built.{append}
-use Rattle.prettyless.specs.Counted.{text}
-use Rattle.prettyless.specs.Lines.{space}
-use Rattle.prettyless.specs.Tree.{Tree, Text, TextWithLen}
+use Rattle.prettyless_model.specs.Built.{append}
+use Rattle.prettyless_model.specs.Counted.{text}
+use Rattle.prettyless_model.specs.Lines.{space}
+use Rattle.prettyless_model.specs.Tree.{Tree, Text, TextWithLen}
 use Rattle.json_formatter.specs.declared.style.Style.{Style}
 use Rattle.json_formatter.specs.declared.style.Fill.{Fill}
 use Rattle.json_formatter.specs.declared.style.Fill.TheVariants as fills

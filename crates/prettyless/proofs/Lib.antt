@@ -1,4 +1,4 @@
-pub use Rattle.prettyless_alloc.proofs.ShownItems
+pub use Rattle.prettyless_laws.proofs.ShownItems
 pub use Rattle.prettyless_laws.proofs.Inline
 pub use Rattle.prettyless_laws.proofs.LineEnds
 pub use Rattle.prettyless_laws.proofs.NeverFlat

@@ -1,5 +1,4 @@
 pub mod Gaps
 pub mod Lists
 pub mod Pieces
-pub mod ShownItems
 pub mod Walks

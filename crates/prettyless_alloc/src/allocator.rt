@@ -1,14 +1,15 @@
 ghost use Rattle.std.specs.Prelude.{◌≡◌, ◌<◌, IfOk, IfErr, IsOk, map};
 ghost use Rattle.std.specs.Cow.{cow_str_bytes};
-ghost use Rattle.prettyless_doc.specs.Tree.{Nil, Fail, Text as TextTree, TextWithLen, WeakSpace, HardLine, WeakLine, ExpandParent};
+ghost use Rattle.prettyless_model.specs.Tree.{Nil, Fail, Text as TextTree, TextWithLen, WeakSpace, HardLine, WeakLine, ExpandParent};
 ghost use Rattle.prettyless_doc.specs.BuildErrors.{IsMemory};
-ghost use Rattle.prettyless_doc.specs.Counted as counted;
+ghost use Rattle.prettyless_model.specs.Counted as counted;
 ghost use Rattle.prettyless_doc.specs.DocTree.{built};
-ghost use Rattle.prettyless_doc.specs.Lines as lines;
+ghost use Rattle.prettyless_model.specs.Lines as lines;
 ghost use Rattle.prettyless_doc.specs.TextBytes.{IfLent};
-ghost use Rattle.prettyless_build.specs.Built as to;
-ghost use Rattle.prettyless_alloc.specs.Lists as lists;
-ghost use Rattle.prettyless_alloc.specs.Words as words;
+ghost use Rattle.prettyless_model.specs.Built as to;
+ghost use Rattle.prettyless_build.specs.Builds.{Builds, IfPlaced, IsNever};
+ghost use Rattle.prettyless_model.specs.Lists as lists;
+ghost use Rattle.prettyless_model.specs.Words as words;
 
 use crate::bracketed::bracketed;
 use crate::punctuated::punctuated;
@@ -30,7 +31,7 @@ pub trait DocAllocator<'a>: DocPlace<'a> {
     /// ```
     fn alloc_cow(&'a self, doc: BuildDoc<'a, Self::Doc>) -> Result<Self::Doc, BuildError>
         ensures ok { IfOk result (λ p. Self.Doc.tree p ≡ built Self.Doc.tree doc.entry) }
-        ensures placed { to.IfPlaced doc.entry (λ p. result ≡ Ok p) }
+        ensures placed { IfPlaced doc.entry (λ p. result ≡ Ok p) }
         ensures err { IfErr result IsMemory };
 
     /// Nothing. It takes no memory.
@@ -40,7 +41,7 @@ pub trait DocAllocator<'a>: DocPlace<'a> {
     /// ```
     fn nil(&'a self) -> Result<DocBuilder<'a, Self>, BuildError>
         ensures ok { IfOk result (λ b. built Self.Doc.tree b.1 ≡ Nil) }
-        ensures err { IfErr result to.IsNever };
+        ensures err { IfErr result IsNever };
 
     /// A document that cannot be laid: a render that reaches it fails. It takes no memory.
     ///
@@ -49,7 +50,7 @@ pub trait DocAllocator<'a>: DocPlace<'a> {
     /// ```
     fn fail(&'a self) -> Result<DocBuilder<'a, Self>, BuildError>
         ensures ok { IfOk result (λ b. built Self.Doc.tree b.1 ≡ Fail) }
-        ensures err { IfErr result to.IsNever };
+        ensures err { IfErr result IsNever };
 
     /// A text that counts as one column a byte, also where it is empty or not ASCII. Only an owned
     /// text takes memory, and fails where that is refused.
@@ -124,7 +125,7 @@ pub trait DocAllocator<'a>: DocPlace<'a> {
     /// place.reflow("a b c")? // "a b\nc" at 3 columns, "a\nb\nc" at 2
     /// ```
     fn reflow(&'a self, text: &'a str) -> Result<DocBuilder<'a, Self>, BuildError>
-        ensures { to.Builds result (λ b. built Self.Doc.tree b.1) (words.reflow text.now) };
+        ensures { Builds result (λ b. built Self.Doc.tree b.1) (words.reflow text.now) };
 
     /// A line break. It keeps the groups around it from being flat, and fails under `flatten`. It takes no memory.
     ///
@@ -133,7 +134,7 @@ pub trait DocAllocator<'a>: DocPlace<'a> {
     /// ```
     fn hard_line(&'a self) -> Result<DocBuilder<'a, Self>, BuildError>
         ensures ok { IfOk result (λ b. built Self.Doc.tree b.1 ≡ HardLine) }
-        ensures err { IfErr result to.IsNever };
+        ensures err { IfErr result IsNever };
 
     /// `hard_line` by another name. It takes no memory.
     ///
@@ -142,7 +143,7 @@ pub trait DocAllocator<'a>: DocPlace<'a> {
     /// ```
     fn hardline(&'a self) -> Result<DocBuilder<'a, Self>, BuildError>
         ensures ok { IfOk result (λ b. built Self.Doc.tree b.1 ≡ HardLine) }
-        ensures err { IfErr result to.IsNever };
+        ensures err { IfErr result IsNever };
 
     /// A line break, under `flatten` too. It keeps the groups around it from being flat. It is nothing on a fresh line
     /// where no suffix is pending. It takes no memory.
@@ -152,7 +153,7 @@ pub trait DocAllocator<'a>: DocPlace<'a> {
     /// ```
     fn weak_line(&'a self) -> Result<DocBuilder<'a, Self>, BuildError>
         ensures ok { IfOk result (λ b. built Self.Doc.tree b.1 ≡ WeakLine) }
-        ensures err { IfErr result to.IsNever };
+        ensures err { IfErr result IsNever };
 
     /// The text of one space. It takes no memory.
     ///
@@ -161,7 +162,7 @@ pub trait DocAllocator<'a>: DocPlace<'a> {
     /// ```
     fn space(&'a self) -> Result<DocBuilder<'a, Self>, BuildError>
         ensures ok { IfOk result (λ b. built Self.Doc.tree b.1 ≡ lines.space) }
-        ensures err { IfErr result to.IsNever };
+        ensures err { IfErr result IsNever };
 
     /// So many spaces, in texts of at most 100: nothing for 0. Up to 100 it takes no memory; beyond that it fails where
     /// memory is refused.
@@ -181,7 +182,7 @@ pub trait DocAllocator<'a>: DocPlace<'a> {
     /// ```
     fn weak_space(&'a self) -> Result<DocBuilder<'a, Self>, BuildError>
         ensures ok { IfOk result (λ b. built Self.Doc.tree b.1 ≡ WeakSpace) }
-        ensures err { IfErr result to.IsNever };
+        ensures err { IfErr result IsNever };
 
     /// Nothing, but it keeps the groups around it from being flat. It takes no memory.
     ///
@@ -190,7 +191,7 @@ pub trait DocAllocator<'a>: DocPlace<'a> {
     /// ```
     fn expand_parent(&'a self) -> Result<DocBuilder<'a, Self>, BuildError>
         ensures ok { IfOk result (λ b. built Self.Doc.tree b.1 ≡ ExpandParent) }
-        ensures err { IfErr result to.IsNever };
+        ensures err { IfErr result IsNever };
 
     /// A line break, or one space where lines are flat. It fails where memory is refused.
     ///
@@ -244,7 +245,7 @@ pub trait DocAllocator<'a>: DocPlace<'a> {
         docs: Vec<Self::Doc>,
         separator: DocBuilder<'a, Self>,
     ) -> Result<DocBuilder<'a, Self>, BuildError>
-        ensures { to.Builds result (λ b. built Self.Doc.tree b.1)
+        ensures { Builds result (λ b. built Self.Doc.tree b.1)
             (words.intersperse (built Self.Doc.tree separator.entry.1) (map Self.Doc.tree docs.items)) };
 
     /// The documents in order, each but the last with the punctuation after it: a comma, for instance. It fails where memory is
@@ -279,14 +280,14 @@ pub trait DocAllocator<'a>: DocPlace<'a> {
         after: &'a str,
         indent: isize,
     ) -> Result<DocBuilder<'a, Self>, BuildError>
-        ensures { to.Builds result (λ b. built Self.Doc.tree b.1)
+        ensures { Builds result (λ b. built Self.Doc.tree b.1)
             (lists.bracketed (counted.text before.now) (map Self.Doc.tree docs.items) (counted.text after.now) indent) };
 }
 
 impl<'a, D: DocPlace<'a>> DocAllocator<'a> for D {
     fn alloc_cow(&'a self, doc: BuildDoc<'a, D::Doc>) -> Result<D::Doc, BuildError>
         ensures ok { IfOk result (λ p. D.Doc.tree p ≡ built D.Doc.tree doc.entry) }
-        ensures placed { to.IfPlaced doc.entry (λ p. result ≡ Ok p) }
+        ensures placed { IfPlaced doc.entry (λ p. result ≡ Ok p) }
         ensures err { IfErr result IsMemory }
     {
         DocBuilder(self, doc).into_doc()
@@ -398,7 +399,7 @@ impl<'a, D: DocPlace<'a>> DocAllocator<'a> for D {
         docs: Vec<D::Doc>,
         separator: DocBuilder<'a, D>,
     ) -> Result<DocBuilder<'a, D>, BuildError>
-        ensures { to.Builds result (λ b. built D.Doc.tree b.1)
+        ensures { Builds result (λ b. built D.Doc.tree b.1)
             (words.intersperse (built D.Doc.tree separator.entry.1) (map D.Doc.tree docs.items)) }
     {
         separate(self, docs, separator)
@@ -423,7 +424,7 @@ impl<'a, D: DocPlace<'a>> DocAllocator<'a> for D {
         after: &'a str,
         indent: isize,
     ) -> Result<DocBuilder<'a, D>, BuildError>
-        ensures { to.Builds result (λ b. built D.Doc.tree b.1)
+        ensures { Builds result (λ b. built D.Doc.tree b.1)
             (lists.bracketed (counted.text before.now) (map D.Doc.tree docs.items) (counted.text after.now) indent) }
     {
         bracketed(self, before, docs, after, indent)

@@ -1,8 +1,8 @@
 //! The calls of a place of nodes that take a document.
 ghost use Rattle.std.specs.Prelude.{IfOk, IfErr};
-ghost use Rattle.prettyless_doc.specs.Tree.{Nil, LineSuffix, BreakOrFlat};
+ghost use Rattle.prettyless_model.specs.Tree.{Nil, LineSuffix, BreakOrFlat};
 ghost use Rattle.prettyless_doc.specs.DocTree.{built};
-ghost use Rattle.prettyless_build.specs.Built as to;
+ghost use Rattle.prettyless_build.specs.Builds.{BuildsOf};
 
 use prettyless_build::{DocBuilder, Pretty};
 use prettyless_doc::{BuildError, Doc, DocPlace};
@@ -29,7 +29,7 @@ pub trait DocAllocatorOf<'a, P: Pretty<'a, Self>>: DocPlace<'a> {
     /// docs![place, place.line_suffix(" # b")?, "a", place.hard_line()?]? // "a # b\n"
     /// ```
     fn line_suffix(&'a self, doc: P) -> Result<DocBuilder<'a, Self>, BuildError>
-        ensures { to.BuildsOf result (λ b. built Self.Doc.tree b.1) (P.becomes doc) (P.refuses doc) LineSuffix };
+        ensures { BuildsOf result (λ b. built Self.Doc.tree b.1) (P.becomes doc) (P.refuses doc) LineSuffix };
 
     /// Nothing where lines are broken, and the document where they are flat. It fails as the making of the document does,
     /// and where memory is refused.
@@ -38,7 +38,7 @@ pub trait DocAllocatorOf<'a, P: Pretty<'a, Self>>: DocPlace<'a> {
     /// docs![place, "a", place.if_group_flat(";")?, place.line_()?, "b"]?.group()? // "a;b" at 3 columns, "a\nb" at 2
     /// ```
     fn if_group_flat(&'a self, doc: P) -> Result<DocBuilder<'a, Self>, BuildError>
-        ensures { to.BuildsOf result (λ b. built Self.Doc.tree b.1) (P.becomes doc) (P.refuses doc) (BreakOrFlat Nil) };
+        ensures { BuildsOf result (λ b. built Self.Doc.tree b.1) (P.becomes doc) (P.refuses doc) (BreakOrFlat Nil) };
 
     /// The document where lines are broken, and nothing where they are flat. It fails as the making of the document does,
     /// and where memory is refused.
@@ -47,7 +47,7 @@ pub trait DocAllocatorOf<'a, P: Pretty<'a, Self>>: DocPlace<'a> {
     /// docs![place, "a", place.if_group_break(",")?, place.line_()?, "b"]?.group()? // "ab" at 2 columns, "a,\nb" at 1
     /// ```
     fn if_group_break(&'a self, doc: P) -> Result<DocBuilder<'a, Self>, BuildError>
-        ensures { to.BuildsOf result (λ b. built Self.Doc.tree b.1) (P.becomes doc) (P.refuses doc) (λ y. BreakOrFlat y Nil) };
+        ensures { BuildsOf result (λ b. built Self.Doc.tree b.1) (P.becomes doc) (P.refuses doc) (λ y. BreakOrFlat y Nil) };
 }
 
 impl<'a, D: DocPlace<'a>, P: Pretty<'a, D>> DocAllocatorOf<'a, P> for D {

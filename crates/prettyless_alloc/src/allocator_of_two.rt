@@ -1,8 +1,8 @@
 //! The calls of a place of nodes that take two documents.
-ghost use Rattle.prettyless_doc.specs.Tree.{OnColumn, OnNesting};
+ghost use Rattle.prettyless_model.specs.Tree.{OnColumn, OnNesting};
 ghost use Rattle.prettyless_doc.specs.DocTree.{built};
 ghost use Rattle.prettyless_model.specs.Tree.{Two};
-ghost use Rattle.prettyless_build.specs.Built as to;
+ghost use Rattle.prettyless_build.specs.Builds.{BuildsOfTwo};
 
 use prettyless_build::nodes::of_two;
 use prettyless_build::{DocBuilder, Pretty};
@@ -28,7 +28,7 @@ pub trait DocAllocatorOfTwo<'a, P: Pretty<'a, Self>, Q: Pretty<'a, Self>>: DocPl
         first: P,
         second: Q,
     ) -> Result<DocBuilder<'a, Self>, BuildError>
-        ensures { to.BuildsOfTwo result (λ b. built Self.Doc.tree b.1) (P.becomes first) (Q.becomes second) (P.refuses first)
+        ensures { BuildsOfTwo result (λ b. built Self.Doc.tree b.1) (P.becomes first) (Q.becomes second) (P.refuses first)
             (Q.refuses second) (OnColumn test) };
 
     /// The first document where the test of the indent holds, else the second, flat or broken.
@@ -43,7 +43,7 @@ pub trait DocAllocatorOfTwo<'a, P: Pretty<'a, Self>, Q: Pretty<'a, Self>>: DocPl
         first: P,
         second: Q,
     ) -> Result<DocBuilder<'a, Self>, BuildError>
-        ensures { to.BuildsOfTwo result (λ b. built Self.Doc.tree b.1) (P.becomes first) (Q.becomes second) (P.refuses first)
+        ensures { BuildsOfTwo result (λ b. built Self.Doc.tree b.1) (P.becomes first) (Q.becomes second) (P.refuses first)
             (Q.refuses second) (OnNesting test) };
 }
 
@@ -84,7 +84,7 @@ fn choice<'a, D: DocPlace<'a>, P: Pretty<'a, D>, Q: Pretty<'a, D>>(
     first: P,
     second: Q,
 ) -> Result<DocBuilder<'a, D>, BuildError>
-    ensures { to.BuildsOfTwo result (λ b. built D.Doc.tree b.1) (P.becomes first) (Q.becomes second) (P.refuses first) (Q.refuses second)
+    ensures { BuildsOfTwo result (λ b. built D.Doc.tree b.1) (P.becomes first) (Q.becomes second) (P.refuses first) (Q.refuses second)
         (Two kind) }
 {
     let first = first.pretty(place);

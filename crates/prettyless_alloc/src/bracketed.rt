@@ -1,11 +1,12 @@
 //! Documents of a vector between brackets.
 ghost use Rattle.std.specs.Prelude.{map};
-ghost use Rattle.prettyless_doc.specs.Counted as counted;
+ghost use Rattle.prettyless_model.specs.Counted as counted;
 ghost use Rattle.prettyless_doc.specs.DocTree.{built};
-ghost use Rattle.prettyless_doc.specs.Lines as lines;
-ghost use Rattle.prettyless_build.specs.Built as to;
-ghost use Rattle.prettyless_alloc.specs.Lists as lists;
-ghost use Rattle.prettyless_alloc.specs.Words as words;
+ghost use Rattle.prettyless_model.specs.Lines as lines;
+ghost use Rattle.prettyless_model.specs.Built as to;
+ghost use Rattle.prettyless_build.specs.Builds.{Builds};
+ghost use Rattle.prettyless_model.specs.Lists as lists;
+ghost use Rattle.prettyless_model.specs.Words as words;
 
 use crate::allocator::DocAllocator;
 use prettyless_build::{DocBuilder, Pretty};
@@ -19,7 +20,7 @@ pub(crate) fn bracketed<'a, D: DocPlace<'a>>(
     after: &'a str,
     indent: isize,
 ) -> Result<DocBuilder<'a, D>, BuildError>
-    ensures { to.Builds result (λ b. built D.Doc.tree b.1)
+    ensures { Builds result (λ b. built D.Doc.tree b.1)
         (lists.bracketed (counted.text before.now) (map D.Doc.tree docs.items) (counted.text after.now) indent) }
 {
     let before = Pretty::pretty(before, place)?;
@@ -37,7 +38,7 @@ fn on_lines<'a, D: DocPlace<'a>>(
     docs: Vec<D::Doc>,
     indent: isize,
 ) -> Result<DocBuilder<'a, D>, BuildError>
-    ensures { to.Builds result (λ b. built D.Doc.tree b.1)
+    ensures { Builds result (λ b. built D.Doc.tree b.1)
         (to.append (to.nest indent (to.append lines.line_ (words.intersperse lines.line (map D.Doc.tree docs.items)))) lines.line_) }
 {
     let gap = place.line()?;

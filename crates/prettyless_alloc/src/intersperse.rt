@@ -4,8 +4,9 @@ ghost use Rattle.std.specs.Iterator.{IsFinite, IsFiniteIterable, Drains};
 ghost use Rattle.std.specs.List.{FoldsTo};
 ghost use Rattle.prettyless_doc.specs.BuildErrors.{IsMemory};
 ghost use Rattle.prettyless_doc.specs.DocTree.{built};
-ghost use Rattle.prettyless_doc.specs.Tree.{Tree};
-ghost use Rattle.prettyless_build.specs.Built.{Builds, IsNotNil, append};
+ghost use Rattle.prettyless_model.specs.Tree.{Tree};
+ghost use Rattle.prettyless_build.specs.Builds.{Builds};
+ghost use Rattle.prettyless_model.specs.Built.{IsNotNil, append};
 ghost use Rattle.prettyless_build.specs.Iterated.{GivesAll, GivesSome, GivesNext, HasGap, Intersperses, appends_after};
 
 use crate::concat::append_all;

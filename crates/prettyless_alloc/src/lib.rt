@@ -12,7 +12,6 @@ pub mod concat;
 pub mod intersperse;
 mod punctuated;
 mod separate;
-mod shown;
 mod spaces;
 mod words;
 
@@ -21,4 +20,3 @@ pub use allocator_of::DocAllocatorOf;
 pub use allocator_of_two::DocAllocatorOfTwo;
 pub use concat::DocAllocatorOver;
 pub use intersperse::DocAllocatorBetween;
-pub use shown::{law_lists, law_spaced};

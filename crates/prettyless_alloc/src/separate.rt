@@ -1,8 +1,8 @@
 //! Documents of a vector, with a separator in each gap.
 ghost use Rattle.std.specs.Prelude.{map};
 ghost use Rattle.prettyless_doc.specs.DocTree.{built};
-ghost use Rattle.prettyless_build.specs.Built as to;
-ghost use Rattle.prettyless_alloc.specs.Words.{intersperse};
+ghost use Rattle.prettyless_build.specs.Builds.{Builds};
+ghost use Rattle.prettyless_model.specs.Words.{intersperse};
 
 use crate::intersperse::join_after;
 use prettyless_build::DocBuilder;
@@ -14,7 +14,7 @@ pub(crate) fn separate<'a, D: DocPlace<'a>>(
     docs: Vec<D::Doc>,
     separator: DocBuilder<'a, D>,
 ) -> Result<DocBuilder<'a, D>, BuildError>
-    ensures { to.Builds result (λ b. built D.Doc.tree b.1)
+    ensures { Builds result (λ b. built D.Doc.tree b.1)
         (intersperse (built D.Doc.tree separator.entry.1) (map D.Doc.tree docs.items)) }
 {
     let gap = separator.into_doc()?;

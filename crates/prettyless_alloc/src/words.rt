@@ -2,8 +2,9 @@
 ghost use Rattle.std.specs.Prelude.{◌≡◌};
 ghost use Rattle.prettyless_doc.specs.BuildErrors.{IsMemory};
 ghost use Rattle.prettyless_doc.specs.DocTree.{built};
-ghost use Rattle.prettyless_build.specs.Built as to;
-ghost use Rattle.prettyless_alloc.specs.Words as words;
+ghost use Rattle.prettyless_model.specs.Built as to;
+ghost use Rattle.prettyless_build.specs.Builds.{Builds};
+ghost use Rattle.prettyless_model.specs.Words as words;
 
 use crate::allocator::DocAllocator;
 use crate::intersperse::DocAllocatorBetween;
@@ -29,7 +30,7 @@ pub(crate) fn reflow<'a, D: DocPlace<'a>>(
     place: &'a D,
     text: &'a str,
 ) -> Result<DocBuilder<'a, D>, BuildError>
-    ensures { to.Builds result (λ b. built D.Doc.tree b.1) (words.reflow text.now) }
+    ensures { Builds result (λ b. built D.Doc.tree b.1) (words.reflow text.now) }
 {
     place.intersperse(text.split(|c: char| c.is_whitespace()), SoftLine)
 }

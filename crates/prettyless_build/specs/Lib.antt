@@ -1,8 +1,9 @@
-pub mod Built
+pub mod Builds
 pub mod Iterated
 pub use Rattle.prettyless_doc.specs.BuildErrors
-pub use Rattle.prettyless_doc.specs.Counted
 pub use Rattle.prettyless_doc.specs.DocTree
-pub use Rattle.prettyless_doc.specs.Lines
 pub use Rattle.prettyless_doc.specs.TextBytes
-pub use Rattle.prettyless_doc.specs.Tree
+pub use Rattle.prettyless_model.specs.Built
+pub use Rattle.prettyless_model.specs.Counted
+pub use Rattle.prettyless_model.specs.Lines
+pub use Rattle.prettyless_model.specs.Tree

@@ -1,9 +1,10 @@
 ghost use Rattle.std.specs.Prelude.{◌≡◌, ◌⊎◌, IfOk, IfErr, IsOkAnd, IsTrue};
-ghost use Rattle.prettyless_doc.specs.Tree.{Tree, Fail};
+ghost use Rattle.prettyless_model.specs.Tree.{Tree, Fail};
 ghost use Rattle.prettyless_doc.specs.BuildErrors.{IsMemory};
 ghost use Rattle.prettyless_doc.specs.DocTree.{tree_of, built};
 ghost use Rattle.prettyless_doc.specs.declared.doc.BuildDoc.TheVariants.{DocPtr as Placed, Doc as Plain};
-ghost use Rattle.prettyless_build.specs.Built as to;
+ghost use Rattle.prettyless_model.specs.Built as to;
+ghost use Rattle.prettyless_build.specs.Builds.{BuildsOrKeeps, IfPlaced};
 
 use crate::nodes::around;
 use crate::pretty::Pretty;
@@ -64,7 +65,7 @@ impl<'a, D: DocPlace<'a>> DocBuilder<'a, D> {
     #[inline(always)]
     pub fn into_doc(self) -> Result<D::Doc, BuildError>
         ensures ok { IfOk result (λ p. D.Doc.tree p ≡ built D.Doc.tree self.entry.1) }
-        ensures placed { to.IfPlaced self.entry.1 (λ p. result ≡ Ok p) }
+        ensures placed { IfPlaced self.entry.1 (λ p. result ≡ Ok p) }
         ensures err { IfErr result IsMemory }
     {
         match self {
@@ -134,7 +135,7 @@ impl<'a, D: DocPlace<'a>> DocBuilder<'a, D> {
     /// ```
     #[inline(always)]
     pub fn group(self) -> Result<Self, BuildError>
-        ensures { to.BuildsOrKeeps result (λ b. built D.Doc.tree b.1)
+        ensures { BuildsOrKeeps result (λ b. built D.Doc.tree b.1)
             (to.group (built D.Doc.tree self.entry.1))
             (to.keeps_grouped (built D.Doc.tree self.entry.1)) self.entry }
     {
@@ -181,7 +182,7 @@ impl<'a, D: DocPlace<'a>> DocBuilder<'a, D> {
     /// ```
     #[inline(always)]
     pub fn as_line_suffix(self) -> Result<Self, BuildError>
-        ensures { to.BuildsOrKeeps result (λ b. built D.Doc.tree b.1)
+        ensures { BuildsOrKeeps result (λ b. built D.Doc.tree b.1)
             (to.as_line_suffix (built D.Doc.tree self.entry.1))
             (to.keeps_put_off (built D.Doc.tree self.entry.1)) self.entry }
     {

@@ -1,7 +1,7 @@
 //! Documents of which a part is laid, by the mode or by what fits the line.
-ghost use Rattle.prettyless_doc.specs.Tree.{Nil, BreakOrFlat, Union, PartialUnion};
+ghost use Rattle.prettyless_model.specs.Tree.{Nil, BreakOrFlat, Union, PartialUnion};
 ghost use Rattle.prettyless_doc.specs.DocTree.{built};
-ghost use Rattle.prettyless_build.specs.Built as to;
+ghost use Rattle.prettyless_build.specs.Builds.{Builds, BuildsOf};
 
 use crate::builder::DocBuilder;
 use crate::nodes::of_two;
@@ -17,7 +17,7 @@ impl<'a, D: DocPlace<'a>> DocBuilder<'a, D> {
     /// place.pretty("broken")?.flat_alt("flat")?.group()? // "flat" at 4 columns, "broken" at 3
     /// ```
     pub fn flat_alt<E: Pretty<'a, D>>(self, that: E) -> Result<Self, BuildError>
-        ensures { to.BuildsOf result (λ b. built D.Doc.tree b.1) (E.becomes that) (E.refuses that)
+        ensures { BuildsOf result (λ b. built D.Doc.tree b.1) (E.becomes that) (E.refuses that)
             (BreakOrFlat (built D.Doc.tree self.entry.1)) }
     {
         let flat = that.pretty(self.0)?;
@@ -31,7 +31,7 @@ impl<'a, D: DocPlace<'a>> DocBuilder<'a, D> {
     /// docs![place, "a", place.pretty(";")?.when_group_flat()?, line_or_nil(), "b"]?.group()? // "a;b" at 3 columns, "a\nb" at 2
     /// ```
     pub fn when_group_flat(self) -> Result<Self, BuildError>
-        ensures { to.Builds result (λ b. built D.Doc.tree b.1) (BreakOrFlat Nil (built D.Doc.tree self.entry.1)) }
+        ensures { Builds result (λ b. built D.Doc.tree b.1) (BreakOrFlat Nil (built D.Doc.tree self.entry.1)) }
     {
         let nothing = DocBuilder::new(self.0, Doc::Nil);
         of_two(Pair::BreakOrFlat, nothing, self)
@@ -44,7 +44,7 @@ impl<'a, D: DocPlace<'a>> DocBuilder<'a, D> {
     /// docs![place, "a", place.pretty(",")?.when_group_break()?, line_or_nil(), "b"]?.group()? // "ab" at 2 columns, "a,\nb" at 1
     /// ```
     pub fn when_group_break(self) -> Result<Self, BuildError>
-        ensures { to.Builds result (λ b. built D.Doc.tree b.1) (BreakOrFlat (built D.Doc.tree self.entry.1) Nil) }
+        ensures { Builds result (λ b. built D.Doc.tree b.1) (BreakOrFlat (built D.Doc.tree self.entry.1) Nil) }
     {
         let nothing = DocBuilder::new(self.0, Doc::Nil);
         of_two(Pair::BreakOrFlat, self, nothing)
@@ -58,7 +58,7 @@ impl<'a, D: DocPlace<'a>> DocBuilder<'a, D> {
     /// ```
     #[inline(always)]
     pub fn union(self, that: BuildDoc<'a, D::Doc>) -> Result<Self, BuildError>
-        ensures { to.Builds result (λ b. built D.Doc.tree b.1)
+        ensures { Builds result (λ b. built D.Doc.tree b.1)
             (Union (built D.Doc.tree self.entry.1) (built D.Doc.tree that.entry)) }
     {
         let that = DocBuilder(self.0, that);
@@ -73,7 +73,7 @@ impl<'a, D: DocPlace<'a>> DocBuilder<'a, D> {
     /// ```
     #[inline(always)]
     pub fn partial_union(self, that: BuildDoc<'a, D::Doc>) -> Result<Self, BuildError>
-        ensures { to.Builds result (λ b. built D.Doc.tree b.1)
+        ensures { Builds result (λ b. built D.Doc.tree b.1)
             (PartialUnion (built D.Doc.tree self.entry.1) (built D.Doc.tree that.entry)) }
     {
         let that = DocBuilder(self.0, that);

@@ -2,7 +2,8 @@
 ghost use Rattle.std.specs.Prelude.{◌≡◌, ◌<◌, IfOk, IfErr};
 ghost use Rattle.prettyless_doc.specs.BuildErrors.{IsMemory};
 ghost use Rattle.prettyless_doc.specs.DocTree.{built};
-ghost use Rattle.prettyless_build.specs.Built as to;
+ghost use Rattle.prettyless_model.specs.Built as to;
+ghost use Rattle.prettyless_build.specs.Builds.{Builds};
 
 use crate::builder::DocBuilder;
 use crate::nodes::of_two;
@@ -42,7 +43,7 @@ impl<'a, D: DocPlace<'a>> DocBuilder<'a, D> {
     /// place.pretty("a")?.clone()? // "a"
     /// ```
     pub fn clone(&self) -> Result<Self, BuildError>
-        ensures { to.Builds result (λ b. built D.Doc.tree b.1) (built D.Doc.tree self.now.1) }
+        ensures { Builds result (λ b. built D.Doc.tree b.1) (built D.Doc.tree self.now.1) }
     {
         Ok(DocBuilder(self.0, self.1.clone(self.0)?))
     }

@@ -1,9 +1,10 @@
 //! Documents between two others.
 ghost use Rattle.std.specs.Prelude.{◌≡◌, ◌⊎◌, IfOk, IfErr};
-ghost use Rattle.prettyless_doc.specs.Tree.{Tree, Text as TextTree};
+ghost use Rattle.prettyless_model.specs.Tree.{Tree, Text as TextTree};
 ghost use Rattle.prettyless_doc.specs.BuildErrors.{IsMemory};
 ghost use Rattle.prettyless_doc.specs.DocTree.{built};
-ghost use Rattle.prettyless_build.specs.Built as to;
+ghost use Rattle.prettyless_model.specs.Built as to;
+ghost use Rattle.prettyless_build.specs.Builds.{Builds};
 
 use crate::builder::DocBuilder;
 use crate::pretty::Pretty;
@@ -37,7 +38,7 @@ impl<'a, D: DocPlace<'a>> DocBuilder<'a, D> {
 
     // This document between two texts, each of which counts as its bytes.
     fn between(self, before: &'a str, after: &'a str) -> Result<Self, BuildError>
-        ensures { to.Builds result (λ b. built D.Doc.tree b.1)
+        ensures { Builds result (λ b. built D.Doc.tree b.1)
             (to.enclose (TextTree before.now) (built D.Doc.tree self.entry.1) (TextTree after.now)) }
     {
         let place = self.0;
@@ -52,7 +53,7 @@ impl<'a, D: DocPlace<'a>> DocBuilder<'a, D> {
     /// place.pretty("a")?.single_quotes()? // "'a'"
     /// ```
     pub fn single_quotes(self) -> Result<Self, BuildError>
-        ensures { to.Builds result (λ b. built D.Doc.tree b.1) (to.between 39 39 (built D.Doc.tree self.entry.1)) }
+        ensures { Builds result (λ b. built D.Doc.tree b.1) (to.between 39 39 (built D.Doc.tree self.entry.1)) }
     {
         self.between("'", "'")
     }
@@ -63,7 +64,7 @@ impl<'a, D: DocPlace<'a>> DocBuilder<'a, D> {
     /// place.pretty("a")?.double_quotes()? // "\"a\""
     /// ```
     pub fn double_quotes(self) -> Result<Self, BuildError>
-        ensures { to.Builds result (λ b. built D.Doc.tree b.1) (to.between 34 34 (built D.Doc.tree self.entry.1)) }
+        ensures { Builds result (λ b. built D.Doc.tree b.1) (to.between 34 34 (built D.Doc.tree self.entry.1)) }
     {
         self.between("\"", "\"")
     }
@@ -74,7 +75,7 @@ impl<'a, D: DocPlace<'a>> DocBuilder<'a, D> {
     /// place.pretty("a")?.parens()? // "(a)"
     /// ```
     pub fn parens(self) -> Result<Self, BuildError>
-        ensures { to.Builds result (λ b. built D.Doc.tree b.1) (to.between 40 41 (built D.Doc.tree self.entry.1)) }
+        ensures { Builds result (λ b. built D.Doc.tree b.1) (to.between 40 41 (built D.Doc.tree self.entry.1)) }
     {
         self.between("(", ")")
     }
@@ -85,7 +86,7 @@ impl<'a, D: DocPlace<'a>> DocBuilder<'a, D> {
     /// place.pretty("a")?.angles()? // "<a>"
     /// ```
     pub fn angles(self) -> Result<Self, BuildError>
-        ensures { to.Builds result (λ b. built D.Doc.tree b.1) (to.between 60 62 (built D.Doc.tree self.entry.1)) }
+        ensures { Builds result (λ b. built D.Doc.tree b.1) (to.between 60 62 (built D.Doc.tree self.entry.1)) }
     {
         self.between("<", ">")
     }
@@ -96,7 +97,7 @@ impl<'a, D: DocPlace<'a>> DocBuilder<'a, D> {
     /// place.pretty("a")?.braces()? // "{a}"
     /// ```
     pub fn braces(self) -> Result<Self, BuildError>
-        ensures { to.Builds result (λ b. built D.Doc.tree b.1) (to.between 123 125 (built D.Doc.tree self.entry.1)) }
+        ensures { Builds result (λ b. built D.Doc.tree b.1) (to.between 123 125 (built D.Doc.tree self.entry.1)) }
     {
         self.between("{", "}")
     }
@@ -107,7 +108,7 @@ impl<'a, D: DocPlace<'a>> DocBuilder<'a, D> {
     /// place.pretty("a")?.brackets()? // "[a]"
     /// ```
     pub fn brackets(self) -> Result<Self, BuildError>
-        ensures { to.Builds result (λ b. built D.Doc.tree b.1) (to.between 91 93 (built D.Doc.tree self.entry.1)) }
+        ensures { Builds result (λ b. built D.Doc.tree b.1) (to.between 91 93 (built D.Doc.tree self.entry.1)) }
     {
         self.between("[", "]")
     }

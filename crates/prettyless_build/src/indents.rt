@@ -1,7 +1,8 @@
 //! Documents with another indent, in columns.
 ghost use Rattle.std.specs.Prelude.{◌≤◌, ◌-◌, ◌^◌, pos, neg_ℤ};
 ghost use Rattle.prettyless_doc.specs.DocTree.{built};
-ghost use Rattle.prettyless_build.specs.Built as to;
+ghost use Rattle.prettyless_model.specs.Built as to;
+ghost use Rattle.prettyless_build.specs.Builds.{BuildsOrKeeps};
 
 use crate::builder::DocBuilder;
 use crate::nodes::around;
@@ -17,7 +18,7 @@ impl<'a, D: DocPlace<'a>> DocBuilder<'a, D> {
     /// ```
     #[inline(always)]
     pub fn nest(self, offset: isize) -> Result<Self, BuildError>
-        ensures { to.BuildsOrKeeps result (λ b. built D.Doc.tree b.1)
+        ensures { BuildsOrKeeps result (λ b. built D.Doc.tree b.1)
             (to.nest offset (built D.Doc.tree self.entry.1))
             (to.keeps_nested offset (built D.Doc.tree self.entry.1)) self.entry }
     {
@@ -37,7 +38,7 @@ impl<'a, D: DocPlace<'a>> DocBuilder<'a, D> {
     /// ```
     pub fn indent(self, offset: usize) -> Result<Self, BuildError>
         requires { offset ≤ 2 ^ 63 - 1 }
-        ensures { to.BuildsOrKeeps result (λ b. built D.Doc.tree b.1)
+        ensures { BuildsOrKeeps result (λ b. built D.Doc.tree b.1)
             (to.nest (pos offset) (built D.Doc.tree self.entry.1))
             (to.keeps_nested (pos offset) (built D.Doc.tree self.entry.1)) self.entry }
     {
@@ -52,7 +53,7 @@ impl<'a, D: DocPlace<'a>> DocBuilder<'a, D> {
     /// ```
     pub fn dedent(self, offset: usize) -> Result<Self, BuildError>
         requires { offset ≤ 2 ^ 63 - 1 }
-        ensures { to.BuildsOrKeeps result (λ b. built D.Doc.tree b.1)
+        ensures { BuildsOrKeeps result (λ b. built D.Doc.tree b.1)
             (to.nest (neg_ℤ (pos offset)) (built D.Doc.tree self.entry.1))
             (to.keeps_nested (neg_ℤ (pos offset)) (built D.Doc.tree self.entry.1)) self.entry }
     {
@@ -66,7 +67,7 @@ impl<'a, D: DocPlace<'a>> DocBuilder<'a, D> {
     /// docs![place, "a", hard_line(), "b"]?.dedent_to_root()?.nest(2)? // "a\nb"
     /// ```
     pub fn dedent_to_root(self) -> Result<Self, BuildError>
-        ensures { to.BuildsOrKeeps result (λ b. built D.Doc.tree b.1)
+        ensures { BuildsOrKeeps result (λ b. built D.Doc.tree b.1)
             (to.dedent_to_root (built D.Doc.tree self.entry.1))
             (to.keeps_dedented (built D.Doc.tree self.entry.1)) self.entry }
     {
@@ -83,7 +84,7 @@ impl<'a, D: DocPlace<'a>> DocBuilder<'a, D> {
     /// docs![place, "a = ", docs![place, "b", hard_line(), "c"]?.align()?]? // "a = b\n    c"
     /// ```
     pub fn align(self) -> Result<Self, BuildError>
-        ensures { to.BuildsOrKeeps result (λ b. built D.Doc.tree b.1)
+        ensures { BuildsOrKeeps result (λ b. built D.Doc.tree b.1)
             (to.align (built D.Doc.tree self.entry.1))
             (to.keeps_aligned (built D.Doc.tree self.entry.1)) self.entry }
     {

@@ -1,7 +1,7 @@
 //! A document, or two, in a node of some kind.
 ghost use Rattle.prettyless_doc.specs.DocTree.{built};
 ghost use Rattle.prettyless_model.specs.Tree.{One, Two};
-ghost use Rattle.prettyless_build.specs.Built as to;
+ghost use Rattle.prettyless_build.specs.Builds.{Builds};
 
 use crate::builder::DocBuilder;
 use prettyless_doc::{BuildError, Doc, DocPlace};
@@ -17,7 +17,7 @@ pub fn around<'a, D: DocPlace<'a>>(
     kind: Single,
     inner: DocBuilder<'a, D>,
 ) -> Result<DocBuilder<'a, D>, BuildError>
-    ensures { to.Builds result (λ b. built D.Doc.tree b.1) (One kind (built D.Doc.tree inner.entry.1)) }
+    ensures { Builds result (λ b. built D.Doc.tree b.1) (One kind (built D.Doc.tree inner.entry.1)) }
 {
     let place = inner.0;
     let inner = inner.into_doc()?;
@@ -35,7 +35,7 @@ pub fn of_two<'a, D: DocPlace<'a>>(
     first: DocBuilder<'a, D>,
     second: DocBuilder<'a, D>,
 ) -> Result<DocBuilder<'a, D>, BuildError>
-    ensures { to.Builds result (λ b. built D.Doc.tree b.1)
+    ensures { Builds result (λ b. built D.Doc.tree b.1)
         (Two kind (built D.Doc.tree first.entry.1) (built D.Doc.tree second.entry.1)) }
 {
     let place = first.0;

@@ -1,5 +1,5 @@
 ghost use Rattle.std.specs.Prelude.{◌≡◌, IfOk, IfErr, MatchOption};
-ghost use Rattle.prettyless_doc.specs.Tree.{Tree, Nil};
+ghost use Rattle.prettyless_model.specs.Tree.{Tree, Nil};
 ghost use Rattle.prettyless_doc.specs.DocTree.{tree_of, built};
 ghost use Rattle.prettyless_text.specs.declared.text.BuildError.{BuildError};
 

@@ -3,10 +3,11 @@
 //! The making of a field can fail, and memory may be refused. Each field is made, also where one before it failed,
 //! since a field that no one takes cannot be let go.
 ghost use Rattle.std.specs.Prelude.{◌≡◌, ◌⊎◌, IfOk, IfErr, IsOkAnd, IsErrAnd};
-ghost use Rattle.prettyless_doc.specs.Tree.{Tree};
+ghost use Rattle.prettyless_model.specs.Tree.{Tree};
 ghost use Rattle.prettyless_doc.specs.BuildErrors.{IsMemory};
 ghost use Rattle.prettyless_doc.specs.DocTree.{built};
-ghost use Rattle.prettyless_build.specs.Built.{append, joined, refused};
+ghost use Rattle.prettyless_model.specs.Built.{append, joined};
+ghost use Rattle.prettyless_build.specs.Builds.{refused};
 
 use crate::builder::DocBuilder;
 use crate::pretty::Pretty;

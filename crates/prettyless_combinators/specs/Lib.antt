@@ -1,5 +1,6 @@
-pub use Rattle.prettyless_build.specs.Built
+pub use Rattle.prettyless_build.specs.Builds
 pub use Rattle.prettyless_build.specs.Iterated
 pub use Rattle.prettyless_doc.specs.BuildErrors
-pub use Rattle.prettyless_doc.specs.Counted
-pub use Rattle.prettyless_doc.specs.Tree
+pub use Rattle.prettyless_model.specs.Built
+pub use Rattle.prettyless_model.specs.Counted
+pub use Rattle.prettyless_model.specs.Tree

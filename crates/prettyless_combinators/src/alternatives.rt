@@ -2,9 +2,9 @@
 //! of the two can fail, and memory may be refused. Both are made, also where the first failed, since a value that is not consumed cannot be
 //! dropped.
 ghost use Rattle.std.specs.Prelude.{◌≡◌};
-ghost use Rattle.prettyless_doc.specs.Tree as tree;
-ghost use Rattle.prettyless_doc.specs.Tree.{Tree};
-ghost use Rattle.prettyless_build.specs.Built.{refused};
+ghost use Rattle.prettyless_model.specs.Tree as tree;
+ghost use Rattle.prettyless_model.specs.Tree.{Tree};
+ghost use Rattle.prettyless_build.specs.Builds.{refused};
 
 use prettyless_alloc::DocAllocatorOfTwo;
 use prettyless_build::{DocBuilder, Pretty};

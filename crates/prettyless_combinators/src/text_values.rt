@@ -2,9 +2,9 @@
 ghost use Rattle.std.specs.Prelude.{◌≡◌, ⊤};
 ghost use Rattle.std.specs.Cow.{cow_str_bytes};
 ghost use Rattle.prettyless_doc.specs.BuildErrors.{IsMemory};
-ghost use Rattle.prettyless_doc.specs.Counted as counted;
+ghost use Rattle.prettyless_model.specs.Counted as counted;
 ghost use Rattle.prettyless_doc.specs.TextBytes.{IsOwnedAnd};
-ghost use Rattle.prettyless_doc.specs.Tree.{TextWithLen};
+ghost use Rattle.prettyless_model.specs.Tree.{TextWithLen};
 
 use prettyless_alloc::DocAllocator;
 use prettyless_build::{DocBuilder, Pretty};

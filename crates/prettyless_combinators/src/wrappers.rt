@@ -1,10 +1,10 @@
 //! Values that become what a builder's call makes of one document. Making that document can fail, and memory may be
 //! refused.
 ghost use Rattle.std.specs.Prelude.{◌≡◌, ◌⊎◌};
-ghost use Rattle.prettyless_doc.specs.Tree as tree;
-ghost use Rattle.prettyless_doc.specs.Tree.{Tree};
+ghost use Rattle.prettyless_model.specs.Tree as tree;
+ghost use Rattle.prettyless_model.specs.Tree.{Tree};
 ghost use Rattle.prettyless_doc.specs.BuildErrors.{IsMemory};
-ghost use Rattle.prettyless_build.specs.Built as to;
+ghost use Rattle.prettyless_model.specs.Built as to;
 
 use prettyless_alloc::DocAllocatorOf;
 use prettyless_build::{DocBuilder, Pretty};

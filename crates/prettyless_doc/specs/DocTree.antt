@@ -41,11 +41,6 @@ abbrev pub built : {T : Type 0} → (T → Tree) → BuildDoc T → Tree
 built tree (Placed p) = tree p
 built tree (Plain d) = tree_of tree d
 
--- nothing
-abbrev pub is_nil : Tree → Bool
-is_nil t.Nil = true
-is_nil _ = false
-
 -- the node holds memory of its own, beside what its pointers lead to
 abbrev pub holds_memory : {T : Type 0} → Doc T → Bool
 holds_memory (Text s) = is_owned s

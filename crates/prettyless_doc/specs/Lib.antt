@@ -1,11 +1,11 @@
-pub mod Counted
 pub mod DocTree
-pub mod Lines
 pub mod Parts
 pub mod Rendering
 pub mod Shown
+pub use Rattle.prettyless_model.specs.Breaks
+pub use Rattle.prettyless_model.specs.Counted
+pub use Rattle.prettyless_model.specs.Lines
 pub use Rattle.prettyless_model.specs.Tree
-pub use Rattle.prettyless_text.specs.Breaks
 pub use Rattle.prettyless_text.specs.BuildErrors
 pub use Rattle.prettyless_text.specs.Payload
 pub use Rattle.prettyless_text.specs.Small

@@ -2,11 +2,11 @@
 ghost use Rattle.std.specs.Prelude.{◌≡◌, IfOk, IfErr, IsOk};
 ghost use Rattle.std.specs.Cow.{cow_str_bytes};
 ghost use Rattle.prettyless_doc.specs.BuildErrors.{IsMemory};
-ghost use Rattle.prettyless_doc.specs.Counted as to;
+ghost use Rattle.prettyless_model.specs.Counted as to;
 ghost use Rattle.prettyless_doc.specs.DocTree.{tree_of, built};
-ghost use Rattle.prettyless_doc.specs.Lines.{space, line, line_};
+ghost use Rattle.prettyless_model.specs.Lines.{space, line, line_};
 ghost use Rattle.prettyless_doc.specs.TextBytes.{IfLent};
-ghost use Rattle.prettyless_doc.specs.Tree as tree;
+ghost use Rattle.prettyless_model.specs.Tree as tree;
 
 use crate::doc::{BuildDoc, Doc, DocPtr};
 use crate::place::DocPlace;

@@ -16,3 +16,4 @@ pub mod WrittenOut
 pub mod Readings
 pub mod Enclosed
 pub mod WithinWidth
+pub mod ShownItems

@@ -10,3 +10,5 @@ pub mod Traced
 pub mod Rows
 pub mod Enclosed
 pub mod Width
+pub mod Shown
+pub mod SpacedItems

@@ -16,7 +16,7 @@ pub use flat::law_flat_group;
 pub use groups::law_parts;
 pub use probed::law_probe;
 pub use regrouped::law_regroup;
-pub use shown::law_texts;
+pub use shown::{law_lists, law_spaced, law_texts};
 pub use total::law_total;
 pub use traced::{law_deferred, law_endings};
 pub use width::law_width;

@@ -1,10 +1,10 @@
 -- What a call promises that places what another call has built.
 use Rattle.std.specs.Prelude.{◌≡◌, Result, Ok, Err, IfOk, IfErr}
-use Rattle.prettyless_doc.specs.Tree.{Tree}
+use Rattle.prettyless_model.specs.Tree.{Tree}
 use Rattle.prettyless_doc.specs.DocTree.{built}
 use Rattle.prettyless_doc.specs.declared.doc.BuildDoc.{BuildDoc}
 use Rattle.prettyless_text.specs.declared.text.BuildError.{BuildError}
-use Rattle.prettyless_build.specs.Built.{Builds, IfPlaced}
+use Rattle.prettyless_build.specs.Builds.{Builds, IfPlaced}
 
 -- `made` is what the other call answered, `doc` the document of a builder, and `tree` the tree of a pointer.
 pub record Places {B T : Type 0} (made : Result B BuildError) (doc : B → BuildDoc T) (tree : T → Tree)

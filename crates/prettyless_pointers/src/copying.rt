@@ -3,7 +3,7 @@
 ghost use Rattle.std.specs.Prelude.{◌≡◌, ◌+◌, ◌<◌, OnOk, IfOk, IfErr, IfSome, MatchOption};
 ghost use Rattle.prettyless_doc.specs.BuildErrors.{IsMemory};
 ghost use Rattle.prettyless_doc.specs.DocTree.{tree_of};
-ghost use Rattle.prettyless_doc.specs.Tree.{Tree};
+ghost use Rattle.prettyless_model.specs.Tree.{Tree};
 ghost use Rattle.prettyless_pointers.specs.Copying.{filled, whole_copy, task_tree, task_work, frame_work, frames_work, copying_work};
 ghost use Rattle.prettyless_pointers.specs.Copying.{copying_work_at};
 ghost use Rattle.prettyless_pointers.specs.Trees.{box_tree};

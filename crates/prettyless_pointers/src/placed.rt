@@ -2,13 +2,15 @@
 ghost use Rattle.std.specs.Prelude.{◌≡◌, ◌⊎◌, IfOk, IfErr, List};
 ghost use Rattle.std.specs.Cow.{cow_str_bytes};
 ghost use Rattle.std.specs.Iterator.{IsFiniteIterable};
-ghost use Rattle.prettyless_doc.specs.Tree.{Tree, Nil, Fail, TextWithLen, WeakSpace, HardLine, WeakLine, ExpandParent, BreakOrFlat, Union, OnColumn};
-ghost use Rattle.prettyless_doc.specs.Tree.{OnNesting};
+ghost use Rattle.prettyless_model.specs.Tree.{Tree, Nil, Fail, TextWithLen, WeakSpace, HardLine, WeakLine, ExpandParent, BreakOrFlat};
+ghost use Rattle.prettyless_model.specs.Tree.{Union, OnColumn};
+ghost use Rattle.prettyless_model.specs.Tree.{OnNesting};
 ghost use Rattle.prettyless_doc.specs.BuildErrors.{IsMemory};
-ghost use Rattle.prettyless_doc.specs.Counted as counted;
+ghost use Rattle.prettyless_model.specs.Counted as counted;
 ghost use Rattle.prettyless_doc.specs.DocTree.{built};
-ghost use Rattle.prettyless_doc.specs.Lines as lines;
-ghost use Rattle.prettyless_build.specs.Built as to;
+ghost use Rattle.prettyless_model.specs.Lines as lines;
+ghost use Rattle.prettyless_model.specs.Built as to;
+ghost use Rattle.prettyless_build.specs.Builds.{Builds, BuildsOf, BuildsOfTwo, BuildsOrKeeps};
 ghost use Rattle.prettyless_build.specs.Iterated.{GivesAll, GivesSome, HasGap, Concatenates, Intersperses};
 ghost use Rattle.prettyless_pointers.specs.Placed.{Places};
 
@@ -30,7 +32,7 @@ pub trait PlacedDoc<'a, D: DocPlace<'a, Doc = Self>>: DocPtr<'a> {
     /// BoxDoc::nil(place)? // ""
     /// ```
     fn nil(place: &'a D) -> Result<Self, BuildError>
-        ensures { to.Builds result Self.tree Nil };
+        ensures { Builds result Self.tree Nil };
 
     /// A document that cannot be laid: a render that reaches it fails.
     ///
@@ -38,7 +40,7 @@ pub trait PlacedDoc<'a, D: DocPlace<'a, Doc = Self>>: DocPtr<'a> {
     /// docs![place, "a", BoxDoc::fail(place)?]? // writes "a", then `RenderError::Document`
     /// ```
     fn fail(place: &'a D) -> Result<Self, BuildError>
-        ensures { to.Builds result Self.tree Fail };
+        ensures { Builds result Self.tree Fail };
 
     /// A line break. It keeps the groups around it from being flat, and fails under `flatten`.
     ///
@@ -46,7 +48,7 @@ pub trait PlacedDoc<'a, D: DocPlace<'a, Doc = Self>>: DocPtr<'a> {
     /// docs![place, "a", BoxDoc::hard_line(place)?, "b"]?.nest(2)? // "a\n  b"
     /// ```
     fn hard_line(place: &'a D) -> Result<Self, BuildError>
-        ensures { to.Builds result Self.tree HardLine };
+        ensures { Builds result Self.tree HardLine };
 
     /// `hard_line` by another name.
     ///
@@ -54,7 +56,7 @@ pub trait PlacedDoc<'a, D: DocPlace<'a, Doc = Self>>: DocPtr<'a> {
     /// docs![place, "a", BoxDoc::hardline(place)?, "b"]? // "a\nb"
     /// ```
     fn hardline(place: &'a D) -> Result<Self, BuildError>
-        ensures { to.Builds result Self.tree HardLine };
+        ensures { Builds result Self.tree HardLine };
 
     /// A line break, under `flatten` too. It keeps the groups around it from being flat. It is nothing on a fresh line
     /// where no suffix is pending.
@@ -63,7 +65,7 @@ pub trait PlacedDoc<'a, D: DocPlace<'a, Doc = Self>>: DocPtr<'a> {
     /// docs![place, "a", BoxDoc::weak_line(place)?, BoxDoc::weak_line(place)?, "b"]? // "a\nb"
     /// ```
     fn weak_line(place: &'a D) -> Result<Self, BuildError>
-        ensures { to.Builds result Self.tree WeakLine };
+        ensures { Builds result Self.tree WeakLine };
 
     /// The text of one space.
     ///
@@ -71,7 +73,7 @@ pub trait PlacedDoc<'a, D: DocPlace<'a, Doc = Self>>: DocPtr<'a> {
     /// docs![place, "a", BoxDoc::space(place)?, "b"]? // "a b"
     /// ```
     fn space(place: &'a D) -> Result<Self, BuildError>
-        ensures { to.Builds result Self.tree lines.space };
+        ensures { Builds result Self.tree lines.space };
 
     /// A space; nothing at the start of a line, and nothing at its end unless a suffix is pending there.
     ///
@@ -79,7 +81,7 @@ pub trait PlacedDoc<'a, D: DocPlace<'a, Doc = Self>>: DocPtr<'a> {
     /// docs![place, "a", BoxDoc::weak_space(place)?, BoxDoc::hard_line(place)?, "b"]? // "a\nb"
     /// ```
     fn weak_space(place: &'a D) -> Result<Self, BuildError>
-        ensures { to.Builds result Self.tree WeakSpace };
+        ensures { Builds result Self.tree WeakSpace };
 
     /// Nothing, but it keeps the groups around it from being flat.
     ///
@@ -87,7 +89,7 @@ pub trait PlacedDoc<'a, D: DocPlace<'a, Doc = Self>>: DocPtr<'a> {
     /// docs![place, "a", BoxDoc::line(place)?, BoxDoc::expand_parent(place)?, "b"]?.group()? // "a\nb"
     /// ```
     fn expand_parent(place: &'a D) -> Result<Self, BuildError>
-        ensures { to.Builds result Self.tree ExpandParent };
+        ensures { Builds result Self.tree ExpandParent };
 
     /// A line break, or one space where lines are flat.
     ///
@@ -95,7 +97,7 @@ pub trait PlacedDoc<'a, D: DocPlace<'a, Doc = Self>>: DocPtr<'a> {
     /// docs![place, "a", BoxDoc::line(place)?, "b"]?.group()? // "a b" at 3 columns, "a\nb" at 2
     /// ```
     fn line(place: &'a D) -> Result<Self, BuildError>
-        ensures { to.Builds result Self.tree lines.line };
+        ensures { Builds result Self.tree lines.line };
 
     /// A line break, or nothing where lines are flat.
     ///
@@ -103,7 +105,7 @@ pub trait PlacedDoc<'a, D: DocPlace<'a, Doc = Self>>: DocPtr<'a> {
     /// docs![place, "a", BoxDoc::line_(place)?, "b"]?.group()? // "ab" at 2 columns, "a\nb" at 1
     /// ```
     fn line_(place: &'a D) -> Result<Self, BuildError>
-        ensures { to.Builds result Self.tree lines.line_ };
+        ensures { Builds result Self.tree lines.line_ };
 
     /// One space, or a line break where what follows, up to the next possible break, would go past the width.
     ///
@@ -111,7 +113,7 @@ pub trait PlacedDoc<'a, D: DocPlace<'a, Doc = Self>>: DocPtr<'a> {
     /// docs![place, "a", BoxDoc::softline(place)?, "b"]? // "a b" at 3 columns, "a\nb" at 2
     /// ```
     fn softline(place: &'a D) -> Result<Self, BuildError>
-        ensures { to.Builds result Self.tree to.softline };
+        ensures { Builds result Self.tree to.softline };
 
     /// Nothing, or a line break where what follows, up to the next possible break, would go past the width.
     ///
@@ -119,7 +121,7 @@ pub trait PlacedDoc<'a, D: DocPlace<'a, Doc = Self>>: DocPtr<'a> {
     /// docs![place, "a", BoxDoc::softline_(place)?, "b"]? // "ab" at 2 columns, "a\nb" at 1
     /// ```
     fn softline_(place: &'a D) -> Result<Self, BuildError>
-        ensures { to.Builds result Self.tree to.softline_ };
+        ensures { Builds result Self.tree to.softline_ };
 
     /// A text, written as it is: nothing if it is empty. It counts as its bytes if it is ASCII, and else as its display
     /// width. A line end in it is not seen by the layout: `multiline_text` is for such texts.
@@ -128,7 +130,7 @@ pub trait PlacedDoc<'a, D: DocPlace<'a, Doc = Self>>: DocPtr<'a> {
     /// BoxDoc::text(place, CowStr::Borrowed("你好"))? // "你好", four columns
     /// ```
     fn text(place: &'a D, text: CowStr<'a>) -> Result<Self, BuildError>
-        ensures { to.Builds result Self.tree (counted.text (cow_str_bytes text.entry)) };
+        ensures { Builds result Self.tree (counted.text (cow_str_bytes text.entry)) };
 
     /// A text that counts as so many columns. An empty one is a text too, and counts as none.
     ///
@@ -136,7 +138,7 @@ pub trait PlacedDoc<'a, D: DocPlace<'a, Doc = Self>>: DocPtr<'a> {
     /// BoxDoc::text_with_width(place, CowStr::Borrowed("<b>bold"), 4)? // "<b>bold", four columns
     /// ```
     fn text_with_width(place: &'a D, text: CowStr<'a>, width: usize) -> Result<Self, BuildError>
-        ensures { to.Builds result Self.tree (TextWithLen width (cow_str_bytes text.entry)) };
+        ensures { Builds result Self.tree (TextWithLen width (cow_str_bytes text.entry)) };
 
     /// What `{}` shows of the value: an empty text where it shows nothing. It counts as its bytes if it is ASCII, and
     /// else as its display width.
@@ -157,7 +159,7 @@ pub trait PlacedDoc<'a, D: DocPlace<'a, Doc = Self>>: DocPtr<'a> {
     /// BoxDoc::multiline_text(place, CowStr::Borrowed("a\nb"))?.nest(place, 2)? // "a\nb"
     /// ```
     fn multiline_text(place: &'a D, text: CowStr<'a>) -> Result<Self, BuildError>
-        ensures { to.Builds result Self.tree (counted.multiline_text (cow_str_bytes text.entry)) };
+        ensures { Builds result Self.tree (counted.multiline_text (cow_str_bytes text.entry)) };
 
     /// This document, laid flat where it fits the line with what follows up to the next line break, and else broken.
     /// Where it is nothing, a text or a group, it stays as it is, which takes no memory.
@@ -166,7 +168,7 @@ pub trait PlacedDoc<'a, D: DocPlace<'a, Doc = Self>>: DocPtr<'a> {
     /// docs![place, "a", line_or_space(), "b"]?.into_doc()?.group(place)? // "a b" at 3 columns, "a\nb" at 2
     /// ```
     fn group(self, place: &'a D) -> Result<Self, BuildError>
-        ensures { to.BuildsOrKeeps result Self.tree
+        ensures { BuildsOrKeeps result Self.tree
             (to.group (Self.tree self))
             (to.keeps_grouped (Self.tree self)) self };
 
@@ -177,7 +179,7 @@ pub trait PlacedDoc<'a, D: DocPlace<'a, Doc = Self>>: DocPtr<'a> {
     /// docs![place, "a", hard_line(), "b"]?.into_doc()?.nest(place, 2)? // "a\n  b"
     /// ```
     fn nest(self, place: &'a D, offset: isize) -> Result<Self, BuildError>
-        ensures { to.BuildsOrKeeps result Self.tree
+        ensures { BuildsOrKeeps result Self.tree
             (to.nest offset (Self.tree self))
             (to.keeps_nested offset (Self.tree self)) self };
 
@@ -189,7 +191,7 @@ pub trait PlacedDoc<'a, D: DocPlace<'a, Doc = Self>>: DocPtr<'a> {
     /// lines.union(place, BuildDoc::Doc(Doc::Nil))? // "a\nbcd" at 3 columns, nothing at 2
     /// ```
     fn union(self, place: &'a D, that: BuildDoc<'a, Self>) -> Result<Self, BuildError>
-        ensures { to.Builds result Self.tree (Union (Self.tree self) (built Self.tree that.entry)) };
+        ensures { Builds result Self.tree (Union (Self.tree self) (built Self.tree that.entry)) };
 }
 
 // A pointer to what a call has built, or its error. Each call of a builder is passed to it, so that none unwraps its
@@ -277,7 +279,7 @@ impl<'a, D: DocPlace<'a, Doc = T>, T: DocPtr<'a>> PlacedDoc<'a, D> for T {
     }
 
     fn union(self, place: &'a D, that: BuildDoc<'a, T>) -> Result<T, BuildError>
-        ensures { to.Builds result T.tree (Union (T.tree self) (built T.tree that.entry)) }
+        ensures { Builds result T.tree (Union (T.tree self) (built T.tree that.entry)) }
     {
         placed(DocBuilder::from_doc(place, self).union(that))
     }
@@ -307,7 +309,7 @@ pub trait PlacedDocOf<'a, D: DocPlace<'a, Doc = Self>, P: Pretty<'a, D>>: DocPtr
     /// broken.flat_alt(place, "flat")?.group(place)? // "flat" at 4 columns, "broken" at 3
     /// ```
     fn flat_alt(self, place: &'a D, that: P) -> Result<Self, BuildError>
-        ensures { to.BuildsOf result Self.tree (P.becomes that) (P.refuses that) (BreakOrFlat (Self.tree self)) };
+        ensures { BuildsOf result Self.tree (P.becomes that) (P.refuses that) (BreakOrFlat (Self.tree self)) };
 }
 
 impl<'a, D: DocPlace<'a, Doc = T>, P: Pretty<'a, D>, T: DocPtr<'a>> PlacedDocOf<'a, D, P> for T {
@@ -338,7 +340,7 @@ pub trait PlacedDocOfTwo<
     /// docs![place, "ab", BoxDoc::if_column(place, ColumnTest::AtMost(1), "c", "d")?]? // "abd"
     /// ```
     fn if_column(place: &'a D, test: ColumnTest, first: P, second: Q) -> Result<Self, BuildError>
-        ensures { to.BuildsOfTwo result Self.tree (P.becomes first) (Q.becomes second)
+        ensures { BuildsOfTwo result Self.tree (P.becomes first) (Q.becomes second)
             (P.refuses first) (Q.refuses second) (OnColumn test) };
 
     /// The first document where the test of the indent holds, else the second, flat or broken.
@@ -347,7 +349,7 @@ pub trait PlacedDocOfTwo<
     /// BoxDoc::if_nesting(place, NestingTest::AtLeast(2), "c", "d")?.nest(place, 2)? // "c"
     /// ```
     fn if_nesting(place: &'a D, test: NestingTest, first: P, second: Q) -> Result<Self, BuildError>
-        ensures { to.BuildsOfTwo result Self.tree (P.becomes first) (Q.becomes second)
+        ensures { BuildsOfTwo result Self.tree (P.becomes first) (Q.becomes second)
             (P.refuses first) (Q.refuses second) (OnNesting test) };
 }
 

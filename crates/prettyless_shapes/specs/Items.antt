@@ -1,9 +1,9 @@
 -- What shapes show, by what the documents show that they are made of.
 use Rattle.std.specs.Prelude.{ℕ, List, [], ◌∷◌, ◌++◌, if◌then◌else◌}
 use Rattle.std.specs.List.{AllZip}
-use Rattle.prettyless_doc.specs.Tree.{Tree}
+use Rattle.prettyless_model.specs.Tree.{Tree}
 use Rattle.prettyless_model.specs.Shows.{Item, Mark, apart, ended, loose, shows}
-use Rattle.prettyless_alloc.specs.Shown.{text_items, with_gaps}
+use Rattle.prettyless_laws.specs.Shown.{text_items, with_gaps}
 use Rattle.prettyless_shapes.specs.declared.lists.ListStyle.{ListStyle}
 
 -- the last tree shows what the first shows, this gap, and what the second shows

@@ -2,7 +2,7 @@
 ghost use Rattle.std.specs.Prelude.{◌≡◌, [], ◌∷◌, ◌++◌, IfOk, IfErr, map};
 ghost use Rattle.prettyless_model.specs.Shows.{Late, ended, spaced};
 ghost use Rattle.prettyless_doc.specs.BuildErrors.{IsMemory};
-ghost use Rattle.prettyless_alloc.specs.Shown.{text_items};
+ghost use Rattle.prettyless_laws.specs.Shown.{text_items};
 ghost use Rattle.prettyless_shapes.specs.Items.{ShowsMore};
 ghost use Rattle.prettyless_shapes.specs.Shapes.{late_commented, commented};
 

@@ -1,10 +1,10 @@
 //! Documents that are made of no other.
 ghost use Rattle.std.specs.Prelude.{◌≡◌, [], IfOk, IfErr};
 ghost use Rattle.prettyless_doc.specs.BuildErrors.{IsMemory};
-ghost use Rattle.prettyless_doc.specs.Counted as counted;
-ghost use Rattle.prettyless_doc.specs.Tree.{Nil};
+ghost use Rattle.prettyless_model.specs.Counted as counted;
+ghost use Rattle.prettyless_model.specs.Tree.{Nil};
 ghost use Rattle.prettyless_model.specs.Shows.{shows};
-ghost use Rattle.prettyless_alloc.specs.Shown.{text_items};
+ghost use Rattle.prettyless_laws.specs.Shown.{text_items};
 
 use prettyless_alloc::DocAllocator;
 use prettyless_build::Pretty;

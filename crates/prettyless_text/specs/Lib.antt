@@ -1,4 +1,3 @@
-pub mod Breaks
 pub mod BuildErrors
 pub mod Cached
 pub mod Payload
@@ -6,3 +5,4 @@ pub mod Printed
 pub mod Small
 pub mod Source
 pub mod TextBytes
+pub use Rattle.prettyless_model.specs.Breaks

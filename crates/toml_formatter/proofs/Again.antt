@@ -1,6 +1,6 @@
 -- Documents that are laid out again: in which modes a layout lays the groups of a document, and what it spells then.
 use Rattle.std.specs.Prelude.{◌≡◌, ℕ, Bool, List, [], ◌∷◌, ◌++◌, ◌⊎◌, ⊤, if◌then◌else◌}
-use Rattle.prettyless.specs.DocTree.{is_nil}
+use Rattle.prettyless_model.specs.Tree.{is_nil}
 use Rattle.prettyless_laws.specs.Parts.{FollowAlike, IsNeverFlat}
 use Rattle.prettyless_model.specs.Tree as t
 use Rattle.prettyless_model.specs.Tree.{Tree}

@@ -1,7 +1,7 @@
 -- Which documents are laid again as others, and how they are put together.
 use Rattle.std.specs.Prelude.{◌≡◌, ℕ, pos, Bool, true, false, List, [], ◌∷◌, ◌++◌}
-use Rattle.prettyless.specs.Built.{append, group, nest}
-use Rattle.prettyless.specs.Counted as counted
+use Rattle.prettyless_model.specs.Built.{append, group, nest}
+use Rattle.prettyless_model.specs.Counted as counted
 use Rattle.prettyless_model.specs.Tree.{Tree, Nil, BreakOrFlat}
 use Rattle.prettyless_model.specs.Layout.{Whole, layout}
 use Rattle.prettyless_model.specs.Metrics.{is_ascii}

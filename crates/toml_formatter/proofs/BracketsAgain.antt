@@ -5,9 +5,9 @@ use Rattle.prettyless_model.specs.Metrics.{is_ascii}
 use Rattle.prettyless_model.specs.Tree.{Tree, Nil, Text, TextWithLen, HardLine, Append, Group}
 use Rattle.prettyless_model.specs.declared.mode.Mode.{Mode}
 use Rattle.prettyless_model.specs.declared.mode.Mode.TheVariants.{Break, Flat}
-use Rattle.prettyless.specs.Built.{append, group, nest, nest_by}
-use Rattle.prettyless.specs.Counted as counted
-use Rattle.prettyless.specs.DocTree.{is_nil}
+use Rattle.prettyless_model.specs.Built.{append, group, nest, nest_by}
+use Rattle.prettyless_model.specs.Counted as counted
+use Rattle.prettyless_model.specs.Tree.{is_nil}
 use Rattle.toml_formatter.specs.Documents.{lines_with, separated}
 use Rattle.toml_formatter.specs.Spellings.{Bit, end_of_line, word_bits}
 use Rattle.toml_formatter.proofs.Again.{Again, first_mode, later_modes}

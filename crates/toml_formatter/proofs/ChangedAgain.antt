@@ -12,11 +12,11 @@ use Rattle.prettyless_model.specs.declared.options.RenderOptions.{RenderOptions}
 use Rattle.prettyless_model.proofs.Looks.{answer-each, look-same, look-then-then}
 use Rattle.prettyless_model.proofs.Outcomes.{then-done}
 use Rattle.prettyless_laws.specs.Parts.{FollowAlike, IsNeverFlat}
-use Rattle.prettyless.specs.Built.{append}
+use Rattle.prettyless_model.specs.Built.{append}
 use Rattle.toml_lexemes.specs.Bytes as byte
-use Rattle.prettyless.specs.DocTree.{is_nil}
+use Rattle.prettyless_model.specs.Tree.{is_nil}
 use Rattle.toml_formatter.specs.Documents.{broken_if, separated}
-use Rattle.prettyless.specs.Lines.{line, line_}
+use Rattle.prettyless_model.specs.Lines.{line, line_}
 use Rattle.toml_formatter.specs.Spellings.{Bit, text_of}
 use Rattle.toml_formatter.proofs.Again.{Again, IsFlatAgain, IsLaidLike, LooksSame, group_modes, modes_after, spelled_in}
 use Rattle.toml_formatter.proofs.AgainLaws.{BrokenListsAreTrailed, FlatBlankLinesGo, FlatListsAreNot, line_bits, optional_comma}

@@ -3,10 +3,10 @@ use Rattle.std.proofs.Common.{◌≡◌, refl, sym, ◌∙◌, ap, subst, inl, i
 use Rattle.std.proofs.Common.{◌&&◌, ◌||◌, ◌==◌, List, []}
 use Rattle.std.proofs.Common.{◌∷◌}
 use Rattle.std.proofs.lemmas.Bool.{or_parts}
-use Rattle.prettyless.specs.Built.{append}
-use Rattle.prettyless.specs.Counted as counted
-use Rattle.prettyless.specs.Tree.{Tree, Nil}
-use Rattle.prettyless.specs.Trees.{ref_tree}
+use Rattle.prettyless_model.specs.Built.{append}
+use Rattle.prettyless_model.specs.Counted as counted
+use Rattle.prettyless_model.specs.Tree.{Tree, Nil}
+use Rattle.prettyless_pointers.specs.Trees.{ref_tree}
 use Rattle.prettyless_pointers.specs.declared.arena.RefDoc.{RefDoc}
 use Rattle.toml_lexemes.specs.Bytes.{comma, dot, hash, head, is_sign, is_blank, is_quote, ends_word, ends_with_dot, line_feed}
 use Rattle.toml_lexemes.specs.View.{toml_text_of, HasTomlKind}

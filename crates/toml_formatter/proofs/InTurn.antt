@@ -1,7 +1,7 @@
 -- Lines that are laid out one after another are the layout of their documents, one after another.
 use Rattle.std.proofs.Common.{◌≡◌, refl, sym, ◌∙◌, ap, subst, ℕ, zero, suc, Bool, true, false, ◌&&◌, if◌then◌else◌, List, [], ◌∷◌, ◌++◌}
 use Rattle.std.proofs.Common.{append-nil, inl, inr, length}
-use Rattle.prettyless.specs.Built.{append, append_to}
+use Rattle.prettyless_model.specs.Built.{append, append_to}
 use Rattle.prettyless_model.specs.Options.{ending}
 use Rattle.prettyless_model.specs.Spaces.{spaces}
 use Rattle.prettyless_model.specs.Tree.{Tree, Nil, Fail, Text, TextWithLen, MultilineText, WeakSpace, HardLine, WeakLine, Append, LineSuffix}
@@ -22,7 +22,7 @@ use Rattle.prettyless_model.specs.declared.options.IndentationPolicy.TheVariants
 use Rattle.prettyless_model.specs.declared.options.RenderOptions.{RenderOptions}
 use Rattle.prettyless_model.proofs.Levels.{end_fixed, layout_is}
 use Rattle.prettyless_model.proofs.Outcomes.{after-nil}
-use Rattle.prettyless.proofs.LineEnds.{breaks_read_alike, hard_takes_indent, laid_alike, line_end_hides}
+use Rattle.prettyless_laws.proofs.LineEnds.{breaks_read_alike, hard_takes_indent, laid_alike, line_end_hides}
 use Rattle.toml_formatter.specs.Presses.{at_line, AreLines, EndsAtLine, EndsHard}
 
 -- ---- the flag of a state, which no bytes depend on

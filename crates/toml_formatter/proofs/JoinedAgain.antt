@@ -20,9 +20,9 @@ use Rattle.prettyless_laws.specs.Parts.{FollowAlike, IsNeverFlat}
 use Rattle.prettyless_laws.proofs.Following.{lay_alike, then-same}
 use Rattle.prettyless_laws.proofs.Inline.{lay_inline, look_inline}
 use Rattle.prettyless_laws.proofs.LineEnds.{breaks_read_alike}
-use Rattle.prettyless.specs.Built.{append}
-use Rattle.prettyless.specs.Counted as counted
-use Rattle.prettyless.specs.DocTree.{is_nil}
+use Rattle.prettyless_model.specs.Built.{append}
+use Rattle.prettyless_model.specs.Counted as counted
+use Rattle.prettyless_model.specs.Tree.{is_nil}
 use Rattle.toml_formatter.specs.Documents.{broken_if, is_line_feed_byte, lexeme_tree, separated}
 use Rattle.toml_formatter.specs.Spellings.{Bit, word_bits}
 use Rattle.toml_formatter.proofs.Again.{Again, IsFlatAgain, IsLaidLike, LooksSame}

@@ -1,10 +1,10 @@
 -- Documents whose spellings lead the grammar from one place to others.
 use Rattle.std.proofs.Common.{◌≡◌, refl, sym, subst, ℕ, zero, suc, ℤ, pos, Bool, true, false, List, [], ◌∷◌, ◌++◌, inl, inr}
 use Rattle.std.specs.Prelude.{if◌then◌else◌}
-use Rattle.prettyless.specs.Built.{append, append_to, group, nest, nest_by}
-use Rattle.prettyless.specs.Counted as counted
-use Rattle.prettyless.specs.Lines.{line, line_, space}
-use Rattle.prettyless.specs.Tree.{Tree, Nil, Text, TextWithLen, MultilineText, HardLine, ExpandParent, BreakOrFlat, Append, Group}
+use Rattle.prettyless_model.specs.Built.{append, append_to, group, nest, nest_by}
+use Rattle.prettyless_model.specs.Counted as counted
+use Rattle.prettyless_model.specs.Lines.{line, line_, space}
+use Rattle.prettyless_model.specs.Tree.{Tree, Nil, Text, TextWithLen, MultilineText, HardLine, ExpandParent, BreakOrFlat, Append, Group}
 use Rattle.prettyless_model.specs.Metrics.{is_ascii}
 use Rattle.prettyless_model.specs.declared.mode.Mode.{Mode}
 use Rattle.prettyless_model.specs.declared.mode.Mode.TheVariants.{Break, Flat}

@@ -2,8 +2,8 @@
 use Rattle.std.proofs.Common.{◌≡◌, refl, sym, ◌∙◌, ap, subst, ℕ, Bool, true, false, ◌||◌, List, [], ◌∷◌, inl, inr}
 use Rattle.std.specs.Prelude.{Option, Some, None, Ok}
 use Rattle.std.specs.List.{list_any}
-use Rattle.prettyless.specs.Tree.{Tree}
-use Rattle.prettyless.specs.Counted as counted
+use Rattle.prettyless_model.specs.Tree.{Tree}
+use Rattle.prettyless_model.specs.Counted as counted
 use Rattle.toml_lexemes.specs.Bytes.{ends_with_dot}
 use Rattle.toml_lexemes.specs.Shown.{IsWholeLexeme}
 use Rattle.toml_lexemes.specs.SpacedLexemes.{after_toml_gap}

@@ -2,13 +2,13 @@
 use Rattle.std.proofs.Common.{◌≡◌, refl, sym, ◌∙◌, ap, subst, ℕ, Bool, true, false, List, [], ◌∷◌, ◌++◌, arith}
 use Rattle.std.specs.Prelude.{◌⊎◌}
 use Rattle.std.proofs.Common.{inl, inr}
-use Rattle.prettyless.specs.Tree.{Tree}
-use Rattle.prettyless.specs.Trees.{ref_tree}
+use Rattle.prettyless_model.specs.Tree.{Tree}
+use Rattle.prettyless_pointers.specs.Trees.{ref_tree}
 use Rattle.prettyless_pointers.specs.declared.arena.RefDoc.{RefDoc}
 use Rattle.prettyless_model.specs.Shows as shown
 use Rattle.prettyless_model.specs.Shows.{Item, Shown, Mark, LineEnd, more, shows}
 use Rattle.prettyless_shapes.specs.Items.{ShowsBoth, ShowsMore}
-use Rattle.prettyless_shapes.specs.Shown.{text_items}
+use Rattle.prettyless_laws.specs.Shown.{text_items}
 use Rattle.toml_lexemes.specs.Bytes.{comma, hash, head, line_feed}
 use Rattle.toml_lexemes.specs.Lexemes.{cut_toml}
 use Rattle.toml_lexemes.specs.Statements.{Role, a_comment, a_closing, role, trimmed, before_trimmed, Collected, line_ended, with_lexeme}

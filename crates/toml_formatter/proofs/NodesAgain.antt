@@ -13,8 +13,8 @@ use Rattle.prettyless_model.proofs.Looks.{look-same}
 use Rattle.prettyless_laws.specs.Parts.{FollowAlike}
 use Rattle.prettyless_laws.proofs.Following.{alike_after, lay_alike}
 use Rattle.prettyless_laws.proofs.LineEnds.{breaks_read_alike}
-use Rattle.prettyless.specs.Built.{append, append_to, nest, nest_by}
-use Rattle.prettyless.specs.DocTree.{is_nil}
+use Rattle.prettyless_model.specs.Built.{append, append_to, nest, nest_by}
+use Rattle.prettyless_model.specs.Tree.{is_nil}
 use Rattle.toml_formatter.specs.Spellings.{Bit}
 use Rattle.toml_formatter.proofs.Again.{Again, AreNoModes, IsFailed, IsFlatAgain, IsLaidLike, LooksSame, first_mode, group_mode}
 use Rattle.toml_formatter.proofs.Again.{group_modes}

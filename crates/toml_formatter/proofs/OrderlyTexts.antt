@@ -5,7 +5,7 @@ use Rattle.std.proofs.Common.{inl, inr, get_or, length, take, drop, Result, Ok, 
 use Rattle.std.proofs.lemmas.List.{length-take-le}
 use Rattle.std.proofs.lemmas.Option.{slice_get_cases}
 use Rattle.std.specs.Prelude.{◌⊎◌, Option, Some, None, is_ok, slice_get}
-use Rattle.prettyless.specs.Tree.{Tree}
+use Rattle.prettyless_model.specs.Tree.{Tree}
 use Rattle.toml_lexemes.specs.Bytes.{ends_with_dot}
 use Rattle.toml_lexemes.specs.Lexemes.{toml_lexemes_of}
 use Rattle.toml_lexemes.specs.SpacedLexemes.{after_toml_gap, blanks, toml_spaced_as}

@@ -2,11 +2,11 @@
 use Rattle.std.proofs.Common.{◌≡◌, refl, sym, ◌∙◌, ap, subst, Bool, true, false, ◌∷◌, ◌++◌, [], List, ℕ, append_assoc, append-nil, inl, inr}
 use Rattle.std.proofs.Common.{Result, Ok, Err}
 use Rattle.std.specs.Prelude.{OnOk}
-use Rattle.prettyless.specs.Built.{append}
-use Rattle.prettyless.specs.Layout.{Whole, layout}
-use Rattle.prettyless.specs.Tree.{Tree, Nil, HardLine}
+use Rattle.prettyless_model.specs.Built.{append}
+use Rattle.prettyless_model.specs.Layout.{Whole, layout}
+use Rattle.prettyless_model.specs.Tree.{Tree, Nil, HardLine}
 use Rattle.prettyless_model.proofs.Content.{content_of}
-use Rattle.prettyless.proofs.ShownItems.{append_shows, hard_line_shows}
+use Rattle.prettyless_laws.proofs.ShownItems.{append_shows, hard_line_shows}
 use Rattle.prettyless_model.specs.Shows.{ended, shows}
 use Rattle.prettyless_model.specs.declared.options.IndentationPolicy.TheVariants.{Deferred}
 use Rattle.prettyless_model.specs.declared.options.RenderOptions.{RenderOptions}

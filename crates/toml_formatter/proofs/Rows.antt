@@ -1,8 +1,8 @@
 -- A part, its comma and its comments, in the order of a layout, lead the grammar to where they led it in the order of the text.
 use Rattle.std.proofs.Common.{◌≡◌, refl, sym, ◌∙◌, ap, subst, ℕ, Bool, true, false, cond, List, [], ◌∷◌, ◌⊎◌, inl, inr}
 use Rattle.std.specs.Prelude.{⊤, Option, Some, None, Ok}
-use Rattle.prettyless.specs.Tree.{Tree, Nil}
-use Rattle.prettyless.specs.Counted as counted
+use Rattle.prettyless_model.specs.Tree.{Tree, Nil}
+use Rattle.prettyless_model.specs.Counted as counted
 use Rattle.toml_lexemes.specs.Bytes as byte
 use Rattle.toml_lexemes.specs.Shown.{IsWholeLexeme}
 use Rattle.toml_lexemes.specs.SpacedLexemes.{after_toml_gap}

@@ -6,10 +6,10 @@ use Rattle.std.proofs.lemmas.Bool.{eqb-true}
 use Rattle.std.proofs.lemmas.List.Elements.{All-head, All-tail}
 use Rattle.std.specs.Prelude.{Option, Some, None, if◌then◌else◌}
 use Rattle.std.specs.List.{list_any}
-use Rattle.prettyless.specs.Built.{append, append_to, group, nest, nest_by}
-use Rattle.prettyless.specs.Counted as counted
-use Rattle.prettyless.specs.Lines.{line, line_, space}
-use Rattle.prettyless.specs.Tree.{Tree, Nil, Text, TextWithLen, MultilineText, HardLine, ExpandParent, BreakOrFlat, Append, Group}
+use Rattle.prettyless_model.specs.Built.{append, append_to, group, nest, nest_by}
+use Rattle.prettyless_model.specs.Counted as counted
+use Rattle.prettyless_model.specs.Lines.{line, line_, space}
+use Rattle.prettyless_model.specs.Tree.{Tree, Nil, Text, TextWithLen, MultilineText, HardLine, ExpandParent, BreakOrFlat, Append, Group}
 use Rattle.prettyless_model.specs.Metrics.{is_ascii}
 use Rattle.prettyless_model.specs.declared.mode.Mode.{Mode}
 use Rattle.prettyless_model.specs.declared.mode.Mode.TheVariants.{Break, Flat}

@@ -1,7 +1,7 @@
 -- Statements, lexeme by lexeme.
 use Rattle.std.proofs.Common.{◌≡◌, refl, sym, ◌∙◌, ap, subst, ℕ, Bool, true, false, List, [], ◌∷◌, ◌++◌, inl, inr, Bor}
-use Rattle.prettyless.specs.Tree.{Tree}
-use Rattle.prettyless.specs.Trees.{ref_tree}
+use Rattle.prettyless_model.specs.Tree.{Tree}
+use Rattle.prettyless_pointers.specs.Trees.{ref_tree}
 use Rattle.prettyless_pointers.specs.declared.arena.RefDoc.{RefDoc}
 use Rattle.prettyless_model.specs.Shows as shown
 use Rattle.prettyless_model.specs.Shows.{Shown, more, shows}

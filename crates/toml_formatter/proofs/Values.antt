@@ -1,12 +1,12 @@
 -- Values and lists.
 use Rattle.std.proofs.Common.{◌≡◌, refl, sym, ◌∙◌, ap, subst, ℕ, suc, Bool, true, false, cond, ◌||◌, ◌==◌, List, [], ◌∷◌, ◌++◌, inl, inr}
 use Rattle.std.specs.Prelude.{◌⊎◌, ⊤}
-use Rattle.prettyless.specs.Tree.{Tree}
-use Rattle.prettyless.specs.Trees.{ref_tree}
+use Rattle.prettyless_model.specs.Tree.{Tree}
+use Rattle.prettyless_pointers.specs.Trees.{ref_tree}
 use Rattle.prettyless_model.specs.Shows as shown
 use Rattle.prettyless_model.specs.Shows.{Shown, more, shows}
 use Rattle.prettyless_shapes.specs.Items.{ShowsBoth, ShowsSame}
-use Rattle.prettyless_shapes.specs.Shown.{text_items}
+use Rattle.prettyless_laws.specs.Shown.{text_items}
 use Rattle.toml_lexemes.specs.Bytes.{hash, head, is_sign, is_quote, ends_word, ends_with_dot, is_blank}
 use Rattle.toml_lexemes.specs.View.{toml_text_of, HasTomlKind}
 use Rattle.toml_lexemes.specs.declared.lexeme.Lexeme.{Lexeme}

@@ -1,7 +1,7 @@
 -- How the code's lines and documents stand to what the definition reads (Documents).
 use Rattle.std.specs.Prelude.{◌≡◌, ℕ, Bool, true, false, List, [], ◌∷◌, ⊤}
-use Rattle.prettyless.specs.Tree.{Tree}
-use Rattle.prettyless.specs.Trees.{ref_tree}
+use Rattle.prettyless_model.specs.Tree.{Tree}
+use Rattle.prettyless_pointers.specs.Trees.{ref_tree}
 use Rattle.toml_grammar.specs.Sorts.{sort_of}
 use Rattle.toml_formatter.specs.Documents.{End, Level, Draft, end_after_comma, after_comments, is_some, part_end, comments_tree}
 use Rattle.toml_formatter.specs.Documents.{levels_with, with_part, draft_with_statement, document_from}

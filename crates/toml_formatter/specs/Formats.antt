@@ -1,7 +1,7 @@
 -- What formatting a text answers.
 use Rattle.std.specs.Prelude.{◌≡◌, ◌⊎◌, ℕ, true, false, List}
-use Rattle.prettyless.specs.Layout.{Whole, layout}
-use Rattle.prettyless.specs.Tree.{Tree}
+use Rattle.prettyless_model.specs.Layout.{Whole, layout}
+use Rattle.prettyless_model.specs.Tree.{Tree}
 use Rattle.prettyless_model.specs.declared.options.IndentationPolicy.TheVariants.{Deferred}
 use Rattle.prettyless_model.specs.declared.options.LineEnding.{LineEnding}
 use Rattle.prettyless_model.specs.declared.options.RenderOptions.{RenderOptions}

@@ -1,6 +1,6 @@
 -- What holds of the layouts of texts that are TOML.
 use Rattle.std.specs.Prelude.{◌≡◌, ℕ, List, true}
-use Rattle.prettyless.specs.Layout.{Whole, layout}
+use Rattle.prettyless_model.specs.Layout.{Whole, layout}
 use Rattle.prettyless_model.specs.declared.options.LineEnding.{LineEnding}
 use Rattle.toml_lexemes.specs.Lexemes.{toml_lexemes_of}
 use Rattle.toml_grammar.specs.Grammar.{is_toml}

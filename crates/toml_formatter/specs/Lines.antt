@@ -1,7 +1,7 @@
 -- What a document of lexemes is read as, while the lexemes are taken.
 use Rattle.std.specs.Prelude.{◌≡◌, ◌⊎◌, ℕ, Bool, true, false, List, [], ◌∷◌, ◌++◌, ⊤}
-use Rattle.prettyless.specs.Tree.{Tree}
-use Rattle.prettyless.specs.Trees.{ref_tree}
+use Rattle.prettyless_model.specs.Tree.{Tree}
+use Rattle.prettyless_pointers.specs.Trees.{ref_tree}
 use Rattle.prettyless_pointers.specs.declared.arena.RefDoc.{RefDoc}
 use Rattle.prettyless_model.specs.Shows.{Item, Shown, shows, after_text, after_line}
 use Rattle.toml_lexemes.specs.Bytes.{comma, head, line_feed}

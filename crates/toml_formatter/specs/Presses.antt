@@ -1,7 +1,7 @@
 -- Statements that are laid out one after another.
 use Rattle.std.specs.Prelude.{◌≡◌, ◌⊎◌, ℕ, Bool, true, false, List, [], ◌++◌}
-use Rattle.prettyless.specs.Built.{append}
-use Rattle.prettyless.specs.Tree.{Tree, Append, HardLine}
+use Rattle.prettyless_model.specs.Built.{append}
+use Rattle.prettyless_model.specs.Tree.{Tree, Append, HardLine}
 use Rattle.prettyless_model.specs.Column.{start}
 use Rattle.prettyless_model.specs.Layout.{Done, Entry, initial, lay, next_indent, Outcome, State}
 use Rattle.prettyless_model.specs.Levels.{settle}

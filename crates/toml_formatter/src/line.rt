@@ -1,6 +1,6 @@
 //! The document of a line or of what is in brackets, while its lexemes are taken.
 ghost use Rattle.std.specs.Prelude.{◌≡◌, ◌++◌, ◌⊎◌, ◌∷◌, [], ℕ, Bool, List, true, false, ◌&&◌, ◌||◌, IfOk};
-ghost use Rattle.prettyless.specs.Trees.{ref_tree};
+ghost use Rattle.prettyless_pointers.specs.Trees.{ref_tree};
 ghost use Rattle.toml_lexemes.specs.Bytes.{comma, hash, head, line_feed};
 ghost use Rattle.toml_lexemes.specs.View.{toml_text_of, HasTomlKind};
 ghost use Rattle.toml_lexemes.specs.Statements.{role, trimmed, a_closing};

@@ -1,6 +1,6 @@
 //! The documents of values.
 ghost use Rattle.std.specs.Prelude.{◌≡◌, ◌++◌, ◌≤◌, ◌∷◌, [], ℕ, List, length, true, false, IfOk, IfErr, OnOk};
-ghost use Rattle.prettyless.specs.Trees.{ref_tree};
+ghost use Rattle.prettyless_pointers.specs.Trees.{ref_tree};
 ghost use Rattle.toml_lexemes.specs.View.{toml_text_of, HasTomlKind};
 ghost use Rattle.toml_formatter.specs.Depths.{TakesWithin};
 ghost use Rattle.toml_formatter.specs.Documents.{Level, indent_in, level_end, list_tree, new_level, unclosed_tree};

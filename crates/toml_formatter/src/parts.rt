@@ -1,13 +1,13 @@
 //! Documents of lexemes, and documents with a gap between them.
 ghost use Rattle.std.specs.Prelude.{◌≡◌, [], ◌∷◌, IfOk};
 ghost use Rattle.std.specs.List.{list_any};
-ghost use Rattle.prettyless.specs.Counted as counted;
-ghost use Rattle.prettyless.specs.Built.{append, softline};
-ghost use Rattle.prettyless.specs.Lines.{line_};
-ghost use Rattle.prettyless.specs.Tree.{Nil, BreakOrFlat, TextWithLen};
+ghost use Rattle.prettyless_model.specs.Counted as counted;
+ghost use Rattle.prettyless_model.specs.Built.{append, softline};
+ghost use Rattle.prettyless_model.specs.Lines.{line_};
+ghost use Rattle.prettyless_model.specs.Tree.{Nil, BreakOrFlat, TextWithLen};
 ghost use Rattle.prettyless_model.specs.Shows.{Mark, apart, loose, shows, spaced};
 ghost use Rattle.prettyless_shapes.specs.Items.{ShowsBoth, ShowsMore, ShowsSame};
-ghost use Rattle.prettyless_shapes.specs.Shown.{text_items};
+ghost use Rattle.prettyless_laws.specs.Shown.{text_items};
 ghost use Rattle.toml_lexemes.specs.Bytes.{blank_space, comma};
 ghost use Rattle.toml_formatter.specs.Documents.{broken_if, is_line_feed_byte, lexeme_tree, separated};
 ghost use Rattle.toml_formatter.specs.Gaps.{gap_items};

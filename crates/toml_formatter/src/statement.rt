@@ -1,10 +1,10 @@
 //! The documents of statements.
 ghost use Rattle.std.specs.Prelude.{◌≡◌, ◌∷◌, ◌++◌, ◌≤◌, [], ℕ, List, length, false, true, IfOk, IfErr, OnOk};
-ghost use Rattle.prettyless.specs.Trees.{ref_tree};
+ghost use Rattle.prettyless_pointers.specs.Trees.{ref_tree};
 ghost use Rattle.toml_lexemes.specs.View.{toml_text_of, HasTomlKind};
 ghost use Rattle.toml_grammar.specs.Nesting.{max_brackets};
-ghost use Rattle.prettyless.specs.Built.{append};
-ghost use Rattle.prettyless.specs.Counted as counted;
+ghost use Rattle.prettyless_model.specs.Built.{append};
+ghost use Rattle.prettyless_model.specs.Counted as counted;
 ghost use Rattle.toml_formatter.specs.Depths.{TakesWithin};
 ghost use Rattle.toml_formatter.specs.Documents.{Level, closed_end, new_statement, with_part};
 ghost use Rattle.toml_formatter.specs.Drafts.{ReadsFirst, ReadsOn, ReadsStatement, Stands};

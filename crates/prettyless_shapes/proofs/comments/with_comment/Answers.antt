@@ -1,6 +1,6 @@
 use Rattle.std.proofs.Common.{[], ◌∷◌, ◌++◌, rules}
 use Rattle.prettyless_model.specs.Shows.{spaced, ended}
-use Rattle.prettyless_alloc.specs.Shown.{text_items}
+use Rattle.prettyless_laws.specs.Shown.{text_items}
 use Rattle.prettyless_shapes.specs.Items.{ShowsMore}
 use Rattle.prettyless_shapes.specs.Shapes.{commented}
 use Rattle.prettyless_shapes.proofs.Made.{of_made}

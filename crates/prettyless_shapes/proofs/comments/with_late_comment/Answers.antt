@@ -1,6 +1,6 @@
 use Rattle.std.proofs.Common.{◌∷◌, map, rules}
 use Rattle.prettyless_model.specs.Shows.{Late, spaced}
-use Rattle.prettyless_alloc.specs.Shown.{text_items}
+use Rattle.prettyless_laws.specs.Shown.{text_items}
 use Rattle.prettyless_shapes.specs.Items.{ShowsMore}
 use Rattle.prettyless_shapes.specs.Shapes.{late_commented}
 use Rattle.prettyless_shapes.proofs.Made.{of_made, comment_put_off}

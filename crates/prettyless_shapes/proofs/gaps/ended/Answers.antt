@@ -1,8 +1,8 @@
 use Rattle.std.proofs.Common.{[], ◌∷◌, rules}
 use Rattle.prettyless_model.specs.Shows.{ended}
-use Rattle.prettyless_doc.specs.Tree.{HardLine}
-use Rattle.prettyless_build.specs.Built.{append}
-use Rattle.prettyless_alloc.proofs.ShownItems.{hard_line_shows}
+use Rattle.prettyless_model.specs.Tree.{HardLine}
+use Rattle.prettyless_model.specs.Built.{append}
+use Rattle.prettyless_laws.proofs.ShownItems.{hard_line_shows}
 use Rattle.prettyless_shapes.specs.Items.{ShowsMore}
 use Rattle.prettyless_shapes.proofs.Made.{of_made}
 use Rattle.prettyless_shapes.proofs.ShapesShow.{append_shows_more}

@@ -1,7 +1,7 @@
 use Rattle.std.proofs.Common.{[], ◌∷◌, rules}
 use Rattle.prettyless_model.specs.Shows.{apart}
-use Rattle.prettyless_doc.specs.Lines.{line}
-use Rattle.prettyless_alloc.proofs.ShownItems.{line_shows}
+use Rattle.prettyless_model.specs.Lines.{line}
+use Rattle.prettyless_laws.proofs.ShownItems.{line_shows}
 use Rattle.prettyless_shapes.specs.Items.{ShowsBoth}
 use Rattle.prettyless_shapes.specs.Shapes.{gapped}
 use Rattle.prettyless_shapes.proofs.Made.{of_made}

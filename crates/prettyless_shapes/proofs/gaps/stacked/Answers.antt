@@ -1,7 +1,7 @@
 use Rattle.std.proofs.Common.{[], ◌∷◌, rules}
 use Rattle.prettyless_model.specs.Shows.{ended}
-use Rattle.prettyless_doc.specs.Tree.{HardLine}
-use Rattle.prettyless_alloc.proofs.ShownItems.{hard_line_shows}
+use Rattle.prettyless_model.specs.Tree.{HardLine}
+use Rattle.prettyless_laws.proofs.ShownItems.{hard_line_shows}
 use Rattle.prettyless_shapes.specs.Items.{ShowsBoth}
 use Rattle.prettyless_shapes.specs.Shapes.{gapped}
 use Rattle.prettyless_shapes.proofs.Made.{of_made}

@@ -1,9 +1,9 @@
 use Rattle.std.proofs.Common.{rules}
 use Rattle.prettyless_model.specs.Shows.{shows}
-use Rattle.prettyless_doc.specs.Counted as counted
-use Rattle.prettyless_doc.specs.Tree.{Tree}
-use Rattle.prettyless_alloc.specs.Shown.{text_items}
-use Rattle.prettyless_alloc.proofs.ShownItems.{text_shows}
+use Rattle.prettyless_model.specs.Counted as counted
+use Rattle.prettyless_model.specs.Tree.{Tree}
+use Rattle.prettyless_laws.specs.Shown.{text_items}
+use Rattle.prettyless_laws.proofs.ShownItems.{text_shows}
 use Rattle.prettyless_shapes.proofs.Made.{of_made}
 use Rattle.prettyless_shapes.proofs.leaves.text.Goals as goal
 

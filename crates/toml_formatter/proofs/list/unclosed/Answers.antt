@@ -1,7 +1,7 @@
 use Rattle.std.proofs.Common.{◌≡◌, sym, ◌∙◌, ap, true, []}
-use Rattle.prettyless.specs.Built.{append}
-use Rattle.prettyless.specs.Counted.{text}
-use Rattle.prettyless.specs.Trees.{ref_tree}
+use Rattle.prettyless_model.specs.Built.{append}
+use Rattle.prettyless_model.specs.Counted.{text}
+use Rattle.prettyless_pointers.specs.Trees.{ref_tree}
 use Rattle.toml_formatter.specs.Documents.{level_end}
 use Rattle.toml_formatter.specs.Drafts.{line_end}
 use Rattle.toml_formatter.proofs.DraftLemmas.{settled_same}

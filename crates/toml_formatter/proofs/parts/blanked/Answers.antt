@@ -1,8 +1,8 @@
 use Rattle.std.proofs.Common.{◌∙◌, ap, [], ◌∷◌}
 use Rattle.std.proofs.lemmas.Result.{IfOk-weaker}
-use Rattle.prettyless.specs.Built.{append}
-use Rattle.prettyless.specs.Tree.{TextWithLen}
-use Rattle.prettyless.proofs.ShownItems.{space_shows}
+use Rattle.prettyless_model.specs.Built.{append}
+use Rattle.prettyless_model.specs.Tree.{TextWithLen}
+use Rattle.prettyless_laws.proofs.ShownItems.{space_shows}
 use Rattle.prettyless_model.specs.Shows.{spaced}
 use Rattle.prettyless_shapes.specs.Items.{ShowsMore}
 use Rattle.prettyless_shapes.proofs.Made.{of_made}

@@ -1,8 +1,8 @@
 use Rattle.std.proofs.Common.{[], ◌∷◌, rules}
 use Rattle.prettyless_model.specs.Shows.{loose}
-use Rattle.prettyless.specs.Built.{append}
-use Rattle.prettyless.specs.Lines.{line_}
-use Rattle.prettyless.proofs.ShownItems.{line__shows}
+use Rattle.prettyless_model.specs.Built.{append}
+use Rattle.prettyless_model.specs.Lines.{line_}
+use Rattle.prettyless_laws.proofs.ShownItems.{line__shows}
 use Rattle.prettyless_shapes.specs.Items.{ShowsMore}
 use Rattle.prettyless_shapes.proofs.Made.{of_made}
 use Rattle.prettyless_shapes.proofs.ShapesShow.{append_shows_more}

@@ -1,7 +1,7 @@
 use Rattle.std.proofs.Common.{[], ◌∷◌, rules}
 use Rattle.prettyless_model.specs.Shows.{apart}
-use Rattle.prettyless.specs.Built.{append, softline}
-use Rattle.prettyless.proofs.ShownItems.{softline_shows}
+use Rattle.prettyless_model.specs.Built.{append, softline}
+use Rattle.prettyless_laws.proofs.ShownItems.{softline_shows}
 use Rattle.prettyless_shapes.specs.Items.{ShowsMore}
 use Rattle.prettyless_shapes.proofs.Made.{of_made}
 use Rattle.prettyless_shapes.proofs.ShapesShow.{append_shows_more}

@@ -1,9 +1,9 @@
 use Rattle.std.proofs.Common.{[], ◌∷◌, rules}
 use Rattle.prettyless_model.specs.Shows.{Mark}
-use Rattle.prettyless.specs.Built.{append}
-use Rattle.prettyless.specs.Counted.{text}
-use Rattle.prettyless.specs.Tree.{Nil, BreakOrFlat}
-use Rattle.prettyless.proofs.ShownItems.{if_group_break_shows, text_shows}
+use Rattle.prettyless_model.specs.Built.{append}
+use Rattle.prettyless_model.specs.Counted.{text}
+use Rattle.prettyless_model.specs.Tree.{Nil, BreakOrFlat}
+use Rattle.prettyless_laws.proofs.ShownItems.{if_group_break_shows, text_shows}
 use Rattle.prettyless_shapes.specs.Items.{ShowsMore}
 use Rattle.prettyless_shapes.proofs.Made.{of_made}
 use Rattle.prettyless_shapes.proofs.ShapesShow.{append_shows_more}

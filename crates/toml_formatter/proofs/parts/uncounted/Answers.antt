@@ -1,8 +1,8 @@
 use Rattle.std.proofs.Common.{rules}
 use Rattle.prettyless_model.specs.Shows.{shows}
-use Rattle.prettyless.specs.Tree.{Tree, TextWithLen}
-use Rattle.prettyless.proofs.ShownItems.{ascii_text_shows}
-use Rattle.prettyless_shapes.specs.Shown.{text_items}
+use Rattle.prettyless_model.specs.Tree.{Tree, TextWithLen}
+use Rattle.prettyless_laws.proofs.ShownItems.{ascii_text_shows}
+use Rattle.prettyless_laws.specs.Shown.{text_items}
 use Rattle.prettyless_shapes.proofs.Made.{of_made}
 use Rattle.toml_formatter.proofs.parts.uncounted.Goals as goal
 

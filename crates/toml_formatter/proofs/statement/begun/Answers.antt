@@ -1,6 +1,6 @@
 use Rattle.std.proofs.Common.{◌≡◌, refl, sym, ◌∙◌, ap, subst, Bool, true, false, ◌∷◌, [], List, ℕ, inl, inr}
-use Rattle.prettyless.specs.Counted.{text}
-use Rattle.prettyless.specs.Trees.{ref_tree}
+use Rattle.prettyless_model.specs.Counted.{text}
+use Rattle.prettyless_pointers.specs.Trees.{ref_tree}
 use Rattle.toml_lexemes.specs.Bytes.{comma, ends_with_dot}
 use Rattle.toml_lexemes.specs.Statements.{trimmed}
 use Rattle.toml_lexemes.specs.View.{toml_text_of, HasTomlKind}

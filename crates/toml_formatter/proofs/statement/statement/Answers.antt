@@ -1,6 +1,6 @@
 use Rattle.std.proofs.Common.{refl, sym, ◌∙◌, ap, subst, true, false, ◌∷◌, ◌++◌, List, ℕ, inl, inr, append_assoc, append-nil, arith, length}
 use Rattle.std.proofs.Common.{length-append}
-use Rattle.prettyless.specs.Trees.{ref_tree}
+use Rattle.prettyless_pointers.specs.Trees.{ref_tree}
 use Rattle.toml_formatter.specs.Lines.{ShowsTaken}
 use Rattle.toml_lexemes.specs.View.{toml_text_of}
 use Rattle.toml_grammar.specs.Nesting.{max_brackets, nest_too_deep}

@@ -1,7 +1,7 @@
 use Rattle.std.proofs.Common.{rules, refl, inl, inr, [], ◌∷◌}
 use Rattle.std.proofs.lemmas.Result.{IfOk-weaker, IfErr-weaker}
 use Rattle.prettyless_doc.specs.DocTree.{built}
-use Rattle.prettyless_doc.specs.Tree.{Tree}
+use Rattle.prettyless_model.specs.Tree.{Tree}
 use Rattle.prettyless_alloc.proofs.Walks.{gives_first, gives_later, gives_two, drains_later}
 use Rattle.prettyless_alloc.proofs.intersperse.AnyDocAllocatorBetween.intersperse.Goals as goal
 

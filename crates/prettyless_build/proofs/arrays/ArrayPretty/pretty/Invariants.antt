@@ -1,8 +1,8 @@
 use Rattle.std.proofs.Common.{take}
 use Rattle.std.specs.List.{FoldsTo}
-use Rattle.prettyless_doc.specs.Tree.{Nil}
+use Rattle.prettyless_model.specs.Tree.{Nil}
 use Rattle.prettyless_doc.specs.DocTree.{built}
-use Rattle.prettyless_build.specs.Built.{appends}
+use Rattle.prettyless_model.specs.Built.{appends}
 use Rattle.prettyless_build.proofs.arrays.ArrayPretty.pretty.Given as goal
 
 abbrev pub invariant-loop-item : goal.invariant-loop-item

@@ -2,8 +2,8 @@ use Rattle.std.proofs.Common.{rules, ap, ◌∙◌}
 use Rattle.std.proofs.lemmas.Result.{IfErr-weaker}
 use Rattle.prettyless_doc.specs.BuildErrors.{IsMemory}
 use Rattle.prettyless_doc.specs.DocTree.{built}
-use Rattle.prettyless_doc.specs.Tree.{Tree, Append}
-use Rattle.prettyless_build.specs.Built.{IsNotNil}
+use Rattle.prettyless_model.specs.Tree.{Tree, Append}
+use Rattle.prettyless_model.specs.Built.{IsNotNil}
 use Rattle.prettyless_build.proofs.Appended.{nothing, something, after_nothing, before_nothing, both_something}
 use Rattle.prettyless_build.proofs.builder.DocBuilder.join.Goals as goal
 

@@ -2,7 +2,7 @@ use Rattle.std.proofs.Common.{rules, ap, ◌≡◌, ◌∙◌, ◌≤◌, ◌<�
 use Rattle.std.proofs.lemmas.Result.{IfOk-weaker, IfErr-weaker}
 use Rattle.prettyless_doc.specs.BuildErrors.{IsMemory}
 use Rattle.prettyless_doc.specs.DocTree.{built}
-use Rattle.prettyless_doc.specs.Tree.{Tree, Append}
+use Rattle.prettyless_model.specs.Tree.{Tree, Append}
 use Rattle.prettyless_build.proofs.Chains.{repeated}
 use Rattle.prettyless_build.proofs.builder.DocBuilder.repeat.Goals as goal
 

@@ -2,7 +2,7 @@ use Rattle.std.proofs.Common.{rules, sym, subst, inr, Result, Ok, Err, IfErr}
 use Rattle.std.proofs.lemmas.Result.{IfErr-weaker}
 use Rattle.prettyless_doc.specs.BuildErrors.{IsMemory}
 use Rattle.prettyless_doc.specs.DocTree.{built}
-use Rattle.prettyless_doc.specs.Tree.{Tree}
+use Rattle.prettyless_model.specs.Tree.{Tree}
 use Rattle.prettyless_doc.specs.declared.doc.BuildDoc.{BuildDoc}
 use Rattle.prettyless_text.specs.declared.text.BuildError.{BuildError}
 use Rattle.prettyless_build.proofs.Appended.{something}

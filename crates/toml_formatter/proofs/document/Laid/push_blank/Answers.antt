@@ -1,8 +1,8 @@
 use Rattle.std.proofs.Common.{◌≡◌, sym, ◌∙◌, ap, subst}
 use Rattle.std.proofs.lemmas.Result.{on_ok_weaker}
-use Rattle.prettyless.specs.Built.{append}
-use Rattle.prettyless.specs.Tree.{Tree, HardLine}
-use Rattle.prettyless.specs.Trees.{ref_tree}
+use Rattle.prettyless_model.specs.Built.{append}
+use Rattle.prettyless_model.specs.Tree.{Tree, HardLine}
+use Rattle.prettyless_pointers.specs.Trees.{ref_tree}
 use Rattle.toml_formatter.specs.Presses.{EndsHard}
 use Rattle.toml_formatter.proofs.InTurn.{ends_hard}
 use Rattle.toml_formatter.proofs.PressLemmas.{blank_added}

@@ -1,7 +1,7 @@
 use Rattle.std.proofs.Common.{sym, subst}
-use Rattle.prettyless.specs.Built.{append}
-use Rattle.prettyless.specs.Tree.{Tree}
-use Rattle.prettyless.specs.Trees.{ref_tree}
+use Rattle.prettyless_model.specs.Built.{append}
+use Rattle.prettyless_model.specs.Tree.{Tree}
+use Rattle.prettyless_pointers.specs.Trees.{ref_tree}
 use Rattle.toml_formatter.specs.Presses.{AddsLines, EndsHard}
 use Rattle.toml_formatter.proofs.InTurn.{ends_hard}
 use Rattle.toml_formatter.proofs.PressLemmas.{statement_added}

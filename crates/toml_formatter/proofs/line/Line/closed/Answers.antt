@@ -1,6 +1,6 @@
 use Rattle.std.proofs.Common.{◌≡◌, sym, ◌∙◌, ap, Bool, true, false, ◌∷◌}
 use Rattle.toml_formatter.specs.Documents.{broken_if, trailed_end}
-use Rattle.prettyless.specs.Trees.{ref_tree}
+use Rattle.prettyless_pointers.specs.Trees.{ref_tree}
 use Rattle.toml_formatter.specs.Drafts.{line_end}
 use Rattle.toml_formatter.proofs.LineLemmas.{closed_marked, closed_plain, comma_changed, IsSettled}
 use Rattle.toml_formatter.specs.Gaps.{is_nested}

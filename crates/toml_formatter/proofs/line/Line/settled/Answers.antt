@@ -1,6 +1,6 @@
 use Rattle.std.proofs.Common.{◌∙◌}
 use Rattle.std.proofs.lemmas.Result.{IfOk-weaker}
-use Rattle.prettyless.specs.Trees.{ref_tree}
+use Rattle.prettyless_pointers.specs.Trees.{ref_tree}
 use Rattle.toml_formatter.specs.Documents.{after_comments}
 use Rattle.toml_formatter.proofs.line.Line.settled.Goals as goal
 

@@ -1,6 +1,6 @@
 use Rattle.std.proofs.Common.{◌≡◌, sym, ◌∙◌, ap, subst, refl, true, false, [], ◌∷◌, ◌++◌, List, ℕ}
-use Rattle.prettyless.specs.Tree.{TextWithLen}
-use Rattle.prettyless.specs.Trees.{ref_tree}
+use Rattle.prettyless_model.specs.Tree.{TextWithLen}
+use Rattle.prettyless_pointers.specs.Trees.{ref_tree}
 use Rattle.toml_formatter.specs.Gaps.{is_nested}
 use Rattle.toml_formatter.specs.Documents.{with_comment, comment_tree}
 use Rattle.toml_formatter.specs.Drafts.{Stands}

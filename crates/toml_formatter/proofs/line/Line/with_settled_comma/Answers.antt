@@ -1,5 +1,5 @@
 use Rattle.std.proofs.Common.{sym, ap, Bool}
-use Rattle.prettyless.specs.Trees.{ref_tree}
+use Rattle.prettyless_pointers.specs.Trees.{ref_tree}
 use Rattle.toml_lexemes.specs.Bytes.{comma}
 use Rattle.toml_formatter.specs.Documents.{end_after_comma}
 use Rattle.toml_formatter.specs.Drafts.{line_end}

@@ -1,5 +1,5 @@
 use Rattle.std.proofs.Common.{◌∙◌, true, false, ◌∷◌}
-use Rattle.prettyless.specs.Trees.{ref_tree}
+use Rattle.prettyless_pointers.specs.Trees.{ref_tree}
 use Rattle.toml_lexemes.specs.View.{toml_text_of}
 use Rattle.toml_formatter.specs.Gaps.{is_nested}
 use Rattle.toml_formatter.proofs.DraftLemmas.{part_stands, settled_same}

@@ -1,5 +1,5 @@
-use Rattle.prettyless_alloc.proofs.ShownItems.{texts_show, intersperse_shows, punctuated_shows, bracketed_shows, marks_stand_in_gaps}
-use Rattle.prettyless_alloc.proofs.shown.law_lists.Goals as goal
+use Rattle.prettyless_laws.proofs.ShownItems.{texts_show, intersperse_shows, punctuated_shows, bracketed_shows, marks_stand_in_gaps}
+use Rattle.prettyless_laws.proofs.shown.law_lists.Goals as goal
 
 pub returns : goal.returns
 returns c = record {
