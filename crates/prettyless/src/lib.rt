@@ -23,10 +23,10 @@ pub use prettyless_combinators as combinators;
 pub use prettyless_doc::{BuildDoc, Doc, DocPlace, DocPtr, PrettyError, PrettyFmt, text};
 pub use prettyless_model::choice::{ColumnTest, NestingTest};
 pub use prettyless_model::options::{IndentationPolicy, LineEnding, RenderOptions};
-pub use prettyless_pointers::{
-    Arena, BoxAllocator, BoxDoc, IntoRef, PlacedDoc, PlacedDocBetween, PlacedDocOf, PlacedDocOfTwo,
-    PlacedDocOver, RcAllocator, RcDoc, RefDoc,
+pub use prettyless_placed::{
+    PlacedDoc, PlacedDocBetween, PlacedDocOf, PlacedDocOfTwo, PlacedDocOver,
 };
+pub use prettyless_pointers::{Arena, BoxAllocator, BoxDoc, IntoRef, RcAllocator, RcDoc, RefDoc};
 pub use prettyless_sink::error::RenderError;
 pub use prettyless_sink::fmt_write::FmtWrite;
 pub use prettyless_sink::io_write::IoWrite;

@@ -11,6 +11,6 @@ pub use prettyless_combinators::{
     soft_line_or_space, space, spaces, text_with_width, union, weak_line, weak_space,
 };
 pub use prettyless_doc::DocPlace;
-pub use prettyless_pointers::{
+pub use prettyless_placed::{
     PlacedDoc, PlacedDocBetween, PlacedDocOf, PlacedDocOfTwo, PlacedDocOver,
 };

@@ -1,7 +1,6 @@
 //! The calls of a place of nodes that take two documents.
-ghost use Rattle.prettyless_model.specs.Tree.{OnColumn, OnNesting};
+ghost use Rattle.prettyless_model.specs.Tree.{OnColumn, OnNesting, Two};
 ghost use Rattle.prettyless_doc.specs.DocTree.{built};
-ghost use Rattle.prettyless_model.specs.Tree.{Two};
 ghost use Rattle.prettyless_build.specs.Builds.{BuildsOfTwo};
 
 use prettyless_build::nodes::of_two;

@@ -1,7 +1,6 @@
 ghost use Rattle.std.specs.Prelude.{◌≡◌};
-ghost use Rattle.prettyless_model.specs.Tree.{Tree};
+ghost use Rattle.prettyless_model.specs.Tree.{Tree, is_nil};
 ghost use Rattle.prettyless_doc.specs.DocTree.{tree_of, built};
-ghost use Rattle.prettyless_model.specs.Tree.{is_nil};
 
 use crate::text::{MultilineTextData, Text};
 use prettyless_model::choice::{ColumnTest, NestingTest};

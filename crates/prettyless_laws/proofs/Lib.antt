@@ -17,3 +17,9 @@ pub mod Readings
 pub mod Enclosed
 pub mod WithinWidth
 pub mod ShownItems
+pub mod Again
+pub mod InTurn
+pub mod LaidLike
+pub mod NodesAgain
+pub mod LayoutsAgain
+pub mod Spellings

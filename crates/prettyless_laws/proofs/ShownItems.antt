@@ -13,8 +13,8 @@ use Rattle.prettyless_model.specs.Counted as counted
 use Rattle.prettyless_model.specs.Lines.{line, line_, space}
 use Rattle.prettyless_model.specs.Tree.{Tree, Nil, Text, TextWithLen, MultilineText, WeakSpace, HardLine, WeakLine, LineSuffix}
 use Rattle.prettyless_model.specs.Tree.{DedentToRoot, Align, Flatten, BreakOrFlat, Group, Union, PartialUnion, OnColumn, OnNesting}
-use Rattle.prettyless_model.specs.Built.{align, append, append_to, between, dedent_to_root, enclose, flatten, group}
-use Rattle.prettyless_model.specs.Built.{nest, nest_by, softline, softline_}
+use Rattle.prettyless_model.specs.Built.{align, append, append_to, between, dedent_to_root, enclose, flatten, group, nest, nest_by}
+use Rattle.prettyless_model.specs.Built.{softline, softline_}
 use Rattle.prettyless_model.specs.Lists.{change_all_but_last}
 use Rattle.prettyless_laws.specs.Shown.{text_items, after_gaps, with_gaps, in_lines, TextsShow, SeparatedShow, PunctuatedShow}
 use Rattle.prettyless_laws.specs.Shown.{BracketedShow, MarksStandInGaps}

@@ -12,3 +12,5 @@ pub mod Enclosed
 pub mod Width
 pub mod Shown
 pub mod SpacedItems
+pub mod Bits
+pub mod InTurn

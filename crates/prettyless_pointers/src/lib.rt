@@ -1,4 +1,4 @@
-//! The pointers between the nodes of a document, the places that nodes are put in, and the calls of every pointer.
+//! The pointers between the nodes of a document, and the places that nodes are put in.
 #![tactic(auto)]
 
 pub mod arena;
@@ -6,11 +6,9 @@ pub mod boxes;
 mod children;
 mod constants;
 mod copying;
-pub mod placed;
 mod pretty;
 pub mod rc;
 
 pub use arena::{Arena, IntoRef, RefDoc};
 pub use boxes::{BoxAllocator, BoxDoc};
-pub use placed::{PlacedDoc, PlacedDocBetween, PlacedDocOf, PlacedDocOfTwo, PlacedDocOver};
 pub use rc::{RcAllocator, RcDoc};

@@ -11,9 +11,8 @@ use Rattle.prettyless_model.specs.Lists.{change_all_but_last, punctuated}
 use Rattle.prettyless_laws.specs.Shown.{text_items, with_gaps}
 use Rattle.prettyless_model.specs.Words.{intersperse}
 use Rattle.prettyless_laws.proofs.ShownItems.{append_shows, enclose_shows, nest_shows, group_shows, line_suffix_shows, flat_alt_shows}
-use Rattle.prettyless_laws.proofs.ShownItems.{if_group_break_shows}
-use Rattle.prettyless_laws.proofs.ShownItems.{text_shows, space_shows, line_shows, line__shows, softline_shows, hard_line_shows}
-use Rattle.prettyless_laws.proofs.ShownItems.{intersperse_shows, punctuated_shows, marks_stand_in_gaps}
+use Rattle.prettyless_laws.proofs.ShownItems.{if_group_break_shows, text_shows, space_shows, line_shows, line__shows, softline_shows}
+use Rattle.prettyless_laws.proofs.ShownItems.{hard_line_shows, intersperse_shows, punctuated_shows, marks_stand_in_gaps}
 use Rattle.prettyless_shapes.specs.Items.{ShowsAll, ShowsBlock, ShowsBoth, ShowsMore, ShowsSame, ShowsList, mark_items, edge_item}
 use Rattle.prettyless_shapes.specs.Items.{trail_items, member_items, list_items}
 use Rattle.prettyless_shapes.specs.Shapes.{gapped, block, hanging, commented, late_commented, edge, gap_between, trail, members, inside}

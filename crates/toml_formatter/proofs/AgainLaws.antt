@@ -1,45 +1,17 @@
--- Which documents are laid again as others, and how they are put together.
+-- How documents that are laid again as others are put together.
 use Rattle.std.specs.Prelude.{◌≡◌, ℕ, pos, Bool, true, false, List, [], ◌∷◌, ◌++◌}
 use Rattle.prettyless_model.specs.Built.{append, group, nest}
 use Rattle.prettyless_model.specs.Counted as counted
 use Rattle.prettyless_model.specs.Tree.{Tree, Nil, BreakOrFlat}
-use Rattle.prettyless_model.specs.Layout.{Whole, layout}
 use Rattle.prettyless_model.specs.Metrics.{is_ascii}
 use Rattle.prettyless_model.specs.declared.mode.Mode.{Mode}
 use Rattle.prettyless_model.specs.declared.mode.Mode.TheVariants.{Break, Flat}
-use Rattle.prettyless_model.specs.declared.options.IndentationPolicy.TheVariants.{Deferred}
-use Rattle.prettyless_model.specs.declared.options.RenderOptions.{RenderOptions}
 use Rattle.toml_lexemes.specs.Bytes as byte
 use Rattle.toml_formatter.specs.Documents.{broken_if, lines_with, separated}
-use Rattle.toml_formatter.specs.Spellings.{AreWritten, Bit, IsExact, end_of_line, text_of, word_bits}
-use Rattle.toml_formatter.proofs.Again.{Again, first_mode, later_modes, layout_modes, modes_after, spelled_in}
+use Rattle.prettyless_laws.specs.Bits.{Bit, end_of_line, text_of, word_bits}
+use Rattle.prettyless_laws.proofs.Again.{Again, first_mode, later_modes}
 use Rattle.toml_formatter.specs.declared.gaps.Gap.{Gap}
 use Rattle.toml_formatter.specs.declared.gaps.Gap.TheVariants as gap
-
--- ---- layouts
-
--- a document that is laid again has the layout that it had
-abbrev pub LayoutsStay : Type 0
-LayoutsStay =
-    (o : RenderOptions) (x y : Tree) (left : List Mode) (bits : List Bit) (bytes : List ℕ) → Again x y Break (layout_modes o x) left bits
-    → layout o x ≡ Whole bytes → layout o y ≡ Whole bytes
-
--- a layout is written as its document is spelled in the modes of its groups
-abbrev pub LayoutsAreWrittenByModes : Type 0
-LayoutsAreWrittenByModes =
-    (o : RenderOptions) (d : Tree) (bytes : List ℕ) → o.indentation_policy ≡ Deferred → IsExact d → layout o d ≡ Whole bytes
-    → AreWritten o true (spelled_in d Break (layout_modes o d)) bytes
-
--- ---- one after another
-
--- a document is laid again as it is
-abbrev pub DocumentsStay : Type 0
-DocumentsStay = (x : Tree) (m : Mode) (ms : List Mode) → Again x x m ms (modes_after x m ms) (spelled_in x m ms)
-
-abbrev pub AppendedDocumentsStay : Type 0
-AppendedDocumentsStay =
-    (x y u v : Tree) (m : Mode) (ms ns left : List Mode) (xs us : List Bit) → Again x y m ms ns xs → Again u v m ns left us
-    → Again (append x u) (append y v) m ms left (xs ++ us)
 
 -- ---- gaps
 

@@ -19,8 +19,8 @@ use Rattle.toml_formatter.specs.Documents.{trailed_end, unclosed_tree, with_comm
 use Rattle.toml_formatter.specs.Gaps.{gap_before_close, gap_before_comma, gap_before_text}
 use Rattle.toml_formatter.specs.Lines.{may_hold}
 use Rattle.toml_formatter.specs.Numbers.{opened_kind}
-use Rattle.toml_formatter.specs.Spellings.{Bit}
-use Rattle.toml_formatter.proofs.Again.{Again, modes_after, spelled_in}
+use Rattle.prettyless_laws.specs.Bits.{Bit}
+use Rattle.prettyless_laws.proofs.Again.{Again, modes_after, spelled_in}
 use Rattle.toml_formatter.specs.declared.gaps.Gap.{Gap}
 use Rattle.toml_formatter.specs.declared.kind.Kind.{Kind}
 use Rattle.toml_formatter.specs.declared.kind.Kind.TheVariants.{Statement}

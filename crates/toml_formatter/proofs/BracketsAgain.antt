@@ -2,19 +2,18 @@
 use Rattle.std.proofs.Common.{◌≡◌, refl, sym, ◌∙◌, ap, subst, ℕ, zero, suc, ℤ, pos, Bool, true, false, List, [], ◌∷◌, ◌++◌, append_assoc}
 use Rattle.std.proofs.Common.{if◌then◌else◌}
 use Rattle.prettyless_model.specs.Metrics.{is_ascii}
-use Rattle.prettyless_model.specs.Tree.{Tree, Nil, Text, TextWithLen, HardLine, Append, Group}
+use Rattle.prettyless_model.specs.Tree.{Tree, Nil, Text, TextWithLen, HardLine, Append, Group, is_nil}
 use Rattle.prettyless_model.specs.declared.mode.Mode.{Mode}
 use Rattle.prettyless_model.specs.declared.mode.Mode.TheVariants.{Break, Flat}
 use Rattle.prettyless_model.specs.Built.{append, group, nest, nest_by}
 use Rattle.prettyless_model.specs.Counted as counted
-use Rattle.prettyless_model.specs.Tree.{is_nil}
 use Rattle.toml_formatter.specs.Documents.{lines_with, separated}
-use Rattle.toml_formatter.specs.Spellings.{Bit, end_of_line, word_bits}
-use Rattle.toml_formatter.proofs.Again.{Again, first_mode, later_modes}
+use Rattle.prettyless_laws.specs.Bits.{Bit, end_of_line, word_bits}
+use Rattle.prettyless_laws.proofs.Again.{Again, first_mode, later_modes}
 use Rattle.toml_formatter.proofs.AgainLaws.{BracketedDocumentsStay, FlatBracketsStay, LinesStay, after_gap, bracketed, bracketed_bits}
 use Rattle.toml_formatter.specs.declared.gaps.Gap.{Gap}
 use Rattle.toml_formatter.specs.declared.gaps.Gap.TheVariants as gap
-use Rattle.toml_formatter.proofs.NodesAgain.{again_append, again_flat_group, again_group, again_nest, again_same, append_is, joined}
+use Rattle.prettyless_laws.proofs.NodesAgain.{again_append, again_flat_group, again_group, again_nest, again_same, append_is, joined}
 use Rattle.toml_formatter.proofs.SeparatedAgain.{again_separated, again_text}
 
 -- ---- what is something

@@ -22,11 +22,12 @@ use Rattle.toml_formatter.specs.Documents.{lines_with, list_tree, new_level, new
 use Rattle.toml_formatter.specs.Documents.{trailed_end, unclosed_tree, with_ended_line, with_part}
 use Rattle.toml_formatter.specs.Formats.{toml_options}
 use Rattle.toml_formatter.specs.Gaps.{gap_before_close, gap_before_comma, gap_before_comment, gap_before_text}
-use Rattle.toml_formatter.specs.Spellings.{IsExact, LayoutsAreSpelledOut}
+use Rattle.prettyless_laws.specs.Bits.{IsExact}
+use Rattle.toml_formatter.specs.Spellings.{LayoutsAreSpelledOut}
 use Rattle.prettyless_model.specs.declared.mode.Mode.TheVariants.{Break}
 use Rattle.toml_lexemes.proofs.Gaps.{lexemes_alone}
 use Rattle.toml_formatter.proofs.SaidDocuments.{are_commas, says_document}
-use Rattle.toml_formatter.proofs.Spellings.{layouts_are_spellings}
+use Rattle.prettyless_laws.proofs.Spellings.{layouts_are_spellings}
 use Rattle.toml_formatter.specs.declared.gaps.Gap.{Gap}
 use Rattle.toml_formatter.specs.declared.gaps.Gap.TheVariants as gap
 use Rattle.toml_formatter.specs.declared.kind.Kind.{Kind}

@@ -34,7 +34,7 @@ use Rattle.toml_grammar.specs.declared.turn.LexemeTurn.{LexemeTurn}
 use Rattle.toml_grammar.specs.declared.turn.LexemeTurn.TheVariants as turn
 use Rattle.toml_formatter.specs.Numbers.{is_among_numbers, only_number_words}
 use Rattle.toml_formatter.proofs.ReadTexts.{is_word, joined_from, lexeme_then, lexemes_then, with_word, word_then}
-use Rattle.toml_formatter.specs.Spellings.{Bit, end_of_line, text_of}
+use Rattle.prettyless_laws.specs.Bits.{Bit, end_of_line, text_of}
 use Rattle.toml_formatter.proofs.Written.{IsKey, Place, Runs, Stands, after, after_space, at_line, lex_of, letter_sort, place}
 use Rattle.toml_formatter.proofs.Written.{same_reading, taken}
 use Rattle.toml_formatter.specs.Documents.{is_line_feed_byte}

@@ -26,7 +26,7 @@ use Rattle.toml_formatter.specs.Gaps.{gap_before_part, gap_before_text}
 use Rattle.toml_formatter.specs.Kinds.{array_in, last_after_sort, last_after_text}
 use Rattle.toml_formatter.specs.Numbers.{only_number_words, opened_kind}
 use Rattle.toml_formatter.proofs.ReadTexts.{is_word, joined_from, lexeme_then, lexemes_then, with_word, word_then}
-use Rattle.toml_formatter.specs.Spellings.{Bit, end_of_line, text_of, word_bits}
+use Rattle.prettyless_laws.specs.Bits.{Bit, end_of_line, text_of, word_bits}
 use Rattle.toml_formatter.specs.declared.gaps.Gap.{Gap}
 use Rattle.toml_formatter.specs.declared.gaps.Gap.TheVariants as gap
 use Rattle.toml_formatter.specs.declared.kind.Kind.{Kind}

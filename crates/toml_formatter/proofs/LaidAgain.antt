@@ -9,8 +9,8 @@ use Rattle.toml_formatter.specs.Documents.{toml_document}
 use Rattle.toml_formatter.specs.Formats.{toml_options}
 use Rattle.toml_formatter.specs.LaidLaws.{LayoutsAreLaidAgain}
 use Rattle.toml_formatter.proofs.ReadTexts.{joined_from, lexemes_then}
-use Rattle.toml_formatter.specs.Spellings.{Bit}
-use Rattle.toml_formatter.proofs.Again.{layout_modes, spelled_in}
+use Rattle.prettyless_laws.specs.Bits.{Bit}
+use Rattle.prettyless_laws.proofs.Again.{layout_modes, spelled_in}
 use Rattle.toml_formatter.proofs.AlignedAgain.{documents_stay}
 use Rattle.toml_formatter.proofs.ExactDocuments.{exact_document}
 use Rattle.toml_formatter.proofs.JoinedLayouts.{joined_documents}
@@ -18,7 +18,7 @@ use Rattle.toml_formatter.proofs.LaidTexts.{document_runs}
 use Rattle.toml_formatter.proofs.LexedLayouts.{lexemes_written}
 use Rattle.toml_formatter.proofs.OrderlyTexts.{toml_is_orderly}
 use Rattle.toml_formatter.proofs.ReadDrafts.{document_reads}
-use Rattle.toml_formatter.proofs.Spellings.{spelled_so}
+use Rattle.prettyless_laws.proofs.Spellings.{spelled_so}
 use Rattle.toml_formatter.proofs.TreesAgain.{again_layout, layout_written}
 use Rattle.toml_formatter.proofs.Written.{Place}
 

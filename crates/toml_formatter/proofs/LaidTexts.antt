@@ -47,7 +47,7 @@ use Rattle.toml_formatter.specs.Kinds.{last_after_sort, last_after_text}
 use Rattle.toml_formatter.specs.LaidLaws.{LayoutsAreToml}
 use Rattle.toml_formatter.specs.Lines.{may_hold}
 use Rattle.toml_formatter.specs.Numbers.{opened_kind}
-use Rattle.toml_formatter.specs.Spellings.{AreWritten, Bit, IsSpelled}
+use Rattle.prettyless_laws.specs.Bits.{AreWritten, Bit, IsSpelled}
 use Rattle.toml_formatter.specs.declared.kind.Kind.{Kind}
 use Rattle.toml_formatter.specs.declared.kind.Kind.TheVariants.{Statement}
 use Rattle.toml_formatter.specs.declared.kind.Last.{Last}
@@ -61,7 +61,7 @@ use Rattle.toml_formatter.proofs.Levels.{IsLevel, comma_level, comment_level, le
 use Rattle.toml_formatter.proofs.Readings.{Context, Fits, FitsEnd, In, IsOne, Ready, Within, array, clear_at, in_fits, reading}
 use Rattle.toml_formatter.proofs.Readings.{stands, statement, step_at, table, touch_at, turn_at, where_ok}
 use Rattle.toml_formatter.proofs.Rows.{Covers, IsAt, IsCommentText, MayBeMany}
-use Rattle.toml_formatter.proofs.Spellings.{layouts_are_spellings}
+use Rattle.prettyless_laws.proofs.Spellings.{layouts_are_spellings}
 use Rattle.toml_formatter.proofs.Stacks.{IsOpen, IsStack, first_opens, line_place, not_statement, open_last, opens_to, stack_closed}
 use Rattle.toml_formatter.proofs.Stacks.{stack_fits, stack_level}
 use Rattle.toml_formatter.proofs.Stacks.{stack_opened, stack_top}

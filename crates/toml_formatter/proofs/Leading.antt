@@ -11,7 +11,7 @@ use Rattle.prettyless_model.specs.declared.mode.Mode.TheVariants.{Break, Flat}
 use Rattle.toml_lexemes.proofs.WholeLexemes.{no_lexeme}
 use Rattle.toml_grammar.specs.Grammar.{Reading}
 use Rattle.toml_formatter.specs.Documents.{broken_if, separated}
-use Rattle.toml_formatter.specs.Spellings.{Bit, IsSpelled, end_of_line, text_of, word_bits}
+use Rattle.prettyless_laws.specs.Bits.{Bit, IsSpelled, end_of_line, text_of, word_bits}
 use Rattle.toml_formatter.specs.declared.gaps.Gap.{Gap}
 use Rattle.toml_formatter.specs.declared.gaps.Gap.TheVariants as gap
 use Rattle.toml_formatter.proofs.Written.{EndsLine, MayEnd, MaySpace, Place, Runs, Stands, after_space, at_line, place}

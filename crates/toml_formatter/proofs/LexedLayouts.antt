@@ -18,7 +18,7 @@ use Rattle.toml_lexemes.proofs.WholeLexemes.{word_is_whole}
 use Rattle.toml_grammar.specs.Grammar.{Reading}
 use Rattle.toml_grammar.specs.Sorts.{Sort, sort_of}
 use Rattle.toml_formatter.proofs.ReadTexts.{is_word, joined_from, lexeme_then}
-use Rattle.toml_formatter.specs.Spellings.{AreWritten, Bit, end_of_line, text_of}
+use Rattle.prettyless_laws.specs.Bits.{AreWritten, Bit, end_of_line, text_of}
 use Rattle.toml_formatter.proofs.JoinedDocuments.{no_word_sort, word_sort_is}
 use Rattle.toml_formatter.proofs.JoinedLayouts.{lex_word}
 use Rattle.toml_formatter.proofs.LexemeFacts.{alone_is}

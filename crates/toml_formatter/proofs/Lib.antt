@@ -1,6 +1,5 @@
 pub mod SaidDocuments
 pub mod SoundTexts
-pub mod Spellings
 pub mod Stages
 pub mod StatementLemmas
 pub mod DepthLemmas
@@ -13,7 +12,6 @@ pub mod Values
 pub mod Aligning
 pub mod AlignedAgain
 pub mod GapsAgain
-pub mod InTurn
 pub mod Walking
 pub mod Written
 pub mod Leading
@@ -28,9 +26,6 @@ pub mod PressLemmas
 pub mod TreesAgain
 pub mod BracketsAgain
 pub mod ChangedAgain
-pub mod LayoutsAgain
-pub mod NodesAgain
-pub mod LaidLike
 pub mod ReadSteps
 pub mod ReadRows
 pub mod ReadLists
@@ -44,7 +39,6 @@ pub mod JoinedDocuments
 pub mod JoinedLayouts
 pub mod LexedLayouts
 pub mod LaidAgain
-pub mod Again
 pub mod AgainLaws
 pub mod ReadTexts
 pub mod GapFlags

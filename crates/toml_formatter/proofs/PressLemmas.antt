@@ -21,7 +21,8 @@ use Rattle.toml_formatter.specs.Documents.{document_from, lines_with, toml_docum
 use Rattle.toml_formatter.specs.Drafts.{ReadsStatement}
 use Rattle.toml_formatter.specs.Formats.{HasTomlOptions, IsLaidToml, IsLaidTomlDocument, IsTomlLayout, ShowsToml, toml_options}
 use Rattle.toml_formatter.specs.Lines.{TakesStatement}
-use Rattle.toml_formatter.specs.Presses.{blank_after, AddsLines, EndsHard, HasLines, IsPressed}
+use Rattle.toml_formatter.specs.Presses.{blank_after, AddsLines, HasLines, IsPressed}
+use Rattle.prettyless_laws.specs.InTurn.{EndsHard}
 use Rattle.toml_formatter.specs.Sheets.{IsSheet}
 use Rattle.toml_formatter.specs.declared.document.Laid.{Laid}
 use Rattle.toml_formatter.specs.declared.document.Press.{Press}
@@ -31,7 +32,7 @@ use Rattle.toml_formatter.proofs.Aligning.{aligned_statements}
 use Rattle.toml_formatter.proofs.DepthLemmas.{line_end_within, next_within}
 use Rattle.toml_formatter.proofs.DraftLemmas.{all_read, blank_reads}
 use Rattle.toml_formatter.proofs.Documents.{AddsStatement, document_blank, document_more, document_none, document_whole}
-use Rattle.toml_formatter.proofs.InTurn.{lines_layout, lines_more, lines_none}
+use Rattle.prettyless_laws.proofs.InTurn.{lines_layout, lines_more, lines_none}
 
 -- indents are written with the first content of their lines
 pub deferred : (style : Style) (o : RenderOptions) → HasTomlOptions style o → o.indentation_policy ≡ Deferred

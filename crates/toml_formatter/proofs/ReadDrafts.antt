@@ -21,8 +21,8 @@ use Rattle.toml_formatter.specs.Kinds.{kind_in, last_after_text}
 use Rattle.toml_formatter.specs.Lines.{may_hold}
 use Rattle.toml_formatter.specs.Numbers.{is_among_numbers, is_number_word, only_number_words, opened_kind}
 use Rattle.toml_formatter.proofs.ReadTexts.{lexemes_then}
-use Rattle.toml_formatter.specs.Spellings.{Bit, end_of_line, word_bits}
-use Rattle.toml_formatter.proofs.Again.{Again}
+use Rattle.prettyless_laws.specs.Bits.{Bit, end_of_line, word_bits}
+use Rattle.prettyless_laws.proofs.Again.{Again}
 use Rattle.toml_formatter.specs.declared.kind.Kind.{Kind}
 use Rattle.toml_formatter.specs.declared.kind.Kind.TheVariants.{Statement}
 use Rattle.toml_formatter.specs.declared.kind.Last.{Last}

@@ -16,8 +16,8 @@ use Rattle.toml_formatter.specs.Kinds.{kind_in}
 use Rattle.toml_formatter.specs.Lines.{may_hold}
 use Rattle.toml_formatter.specs.Numbers.{is_among_numbers, kind_before, only_number_words, opened_kind}
 use Rattle.toml_formatter.proofs.ReadTexts.{lexemes_then}
-use Rattle.toml_formatter.specs.Spellings.{Bit, word_bits}
-use Rattle.toml_formatter.proofs.Again.{Again, first_mode, later_modes}
+use Rattle.prettyless_laws.specs.Bits.{Bit, word_bits}
+use Rattle.prettyless_laws.proofs.Again.{Again, first_mode, later_modes}
 use Rattle.toml_formatter.specs.declared.gaps.Gap.{Gap}
 use Rattle.toml_formatter.specs.declared.kind.Kind.{Kind}
 use Rattle.toml_formatter.specs.declared.kind.Kind.TheVariants.{Statement, Header, Table, Array, Numbers}

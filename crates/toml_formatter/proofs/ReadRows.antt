@@ -19,8 +19,8 @@ use Rattle.toml_formatter.specs.Documents.{with_part}
 use Rattle.toml_formatter.specs.Gaps.{is_last_comment, gap_before_comma, gap_before_comment, gap_before_part, gap_before_text}
 use Rattle.toml_formatter.specs.Kinds.{last_after_text}
 use Rattle.toml_formatter.specs.Lines.{may_hold}
-use Rattle.toml_formatter.specs.Spellings.{Bit, word_bits}
-use Rattle.toml_formatter.proofs.Again.{Again}
+use Rattle.prettyless_laws.specs.Bits.{Bit, word_bits}
+use Rattle.prettyless_laws.proofs.Again.{Again}
 use Rattle.toml_formatter.specs.declared.gaps.Gap.{Gap}
 use Rattle.toml_formatter.specs.declared.gaps.Gap.TheVariants as gap
 use Rattle.toml_formatter.specs.declared.kind.Kind.{Kind}

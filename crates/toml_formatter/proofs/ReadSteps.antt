@@ -14,7 +14,7 @@ use Rattle.toml_formatter.proofs.GapFlags.{breaks_before, leaves_blank}
 use Rattle.toml_formatter.specs.Lines.{may_hold}
 use Rattle.toml_formatter.specs.Numbers.{is_among_numbers, only_number_words}
 use Rattle.toml_formatter.proofs.ReadTexts.{lexeme_then, lexemes_then}
-use Rattle.toml_formatter.specs.Spellings.{Bit, end_of_line, text_of, word_bits}
+use Rattle.prettyless_laws.specs.Bits.{Bit, end_of_line, text_of, word_bits}
 use Rattle.toml_formatter.specs.declared.gaps.Gap.{Gap}
 use Rattle.toml_formatter.specs.declared.gaps.Gap.TheVariants as gap
 use Rattle.toml_formatter.specs.declared.kind.Kind.{Kind}
@@ -24,7 +24,7 @@ use Rattle.toml_formatter.specs.declared.kind.Last.TheVariants.{Start, Close, Eq
 use Rattle.toml_formatter.specs.declared.style.Style.{Style}
 use Rattle.toml_formatter.proofs.GapsAgain.{comment_again}
 use Rattle.toml_formatter.proofs.TreesAgain.{gap_bits, line_bits}
-use Rattle.toml_formatter.proofs.Again.{first_mode}
+use Rattle.prettyless_laws.proofs.Again.{first_mode}
 
 -- ---- what is between two texts
 

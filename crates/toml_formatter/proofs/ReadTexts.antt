@@ -2,7 +2,7 @@
 use Rattle.std.specs.Prelude.{ℕ, Bool, not, cond, ◌==◌, List, [], ◌∷◌, ◌++◌, Option, Some, None}
 use Rattle.toml_lexemes.specs.Bytes as byte
 use Rattle.toml_lexemes.specs.Bytes.{ends_word, head}
-use Rattle.toml_formatter.specs.Spellings.{Bit, end_of_line, text_of}
+use Rattle.prettyless_laws.specs.Bits.{Bit, end_of_line, text_of}
 
 -- a text in front of others: an empty one and a space are no lexeme
 abbrev pub lexeme_then : List ℕ → List (List ℕ) → List (List ℕ)

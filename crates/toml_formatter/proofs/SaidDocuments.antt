@@ -29,7 +29,8 @@ use Rattle.toml_formatter.specs.Documents.{with_line_end}
 use Rattle.toml_formatter.specs.Documents.{with_part}
 use Rattle.toml_formatter.specs.Gaps.{gap_before_close, gap_before_comma, gap_before_comment, gap_before_text}
 use Rattle.toml_formatter.specs.Lines.{may_hold}
-use Rattle.toml_formatter.specs.Spellings.{Bit, IsSpelled, end_of_line, kept_first, kept_then, text_of, texts_then, with_text, word_bits}
+use Rattle.prettyless_laws.specs.Bits.{Bit, IsSpelled, end_of_line, text_of, word_bits}
+use Rattle.toml_formatter.specs.Spellings.{kept_first, kept_then, texts_then, with_text}
 use Rattle.toml_formatter.specs.declared.gaps.Gap.{Gap}
 use Rattle.toml_formatter.specs.declared.gaps.Gap.TheVariants as gap
 use Rattle.toml_formatter.specs.declared.kind.Kind.{Kind}

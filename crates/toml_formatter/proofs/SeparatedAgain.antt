@@ -11,11 +11,11 @@ use Rattle.toml_lexemes.specs.Bytes as byte
 use Rattle.prettyless_model.specs.Counted as counted
 use Rattle.toml_formatter.specs.Documents.{broken_if, is_line_feed_byte, lexeme_tree, separated}
 use Rattle.prettyless_model.specs.Lines.{line, line_, space}
-use Rattle.toml_formatter.specs.Spellings.{Bit, end_of_line, text_of, word_bits}
-use Rattle.toml_formatter.proofs.Again.{Again, first_mode, later_modes, modes_after, spelled_in}
+use Rattle.prettyless_laws.specs.Bits.{Bit, end_of_line, text_of, word_bits}
+use Rattle.prettyless_laws.proofs.Again.{Again, first_mode, later_modes, modes_after, spelled_in}
 use Rattle.toml_formatter.proofs.AgainLaws.{SeparatedDocumentsStay, after_gap, edge_bits, gap_bits, line_bits}
 use Rattle.toml_formatter.specs.declared.gaps.Gap.TheVariants as gap
-use Rattle.toml_formatter.proofs.NodesAgain.{again_append, again_flat_group, again_group, again_same}
+use Rattle.prettyless_laws.proofs.NodesAgain.{again_append, again_flat_group, again_group, again_same}
 
 -- ---- parts that are the same
 

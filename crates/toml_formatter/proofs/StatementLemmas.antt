@@ -20,8 +20,7 @@ use Rattle.toml_formatter.specs.Gaps.{least_needed, is_last_comment}
 use Rattle.toml_formatter.specs.Kinds.{is_closing, IsPart}
 use Rattle.toml_lexemes.specs.Sound.{LineEndsNext}
 use Rattle.toml_formatter.specs.Lines.{directly_after, before_next, EndsCollected, WaitingComments, waiting, LineRead, ShowsTaken}
-use Rattle.toml_formatter.specs.Lines.{ValueRead, IsValue}
-use Rattle.toml_formatter.specs.Lines.{ClosedRead, IsClosed, TakesMore, MayGoOn, begun, StatementRead, IsStatement}
+use Rattle.toml_formatter.specs.Lines.{ValueRead, IsValue, ClosedRead, IsClosed, TakesMore, MayGoOn, begun, StatementRead, IsStatement}
 use Rattle.toml_formatter.proofs.Stages.{read_both, MayFollow, text_read}
 use Rattle.toml_formatter.proofs.LineLemmas.{comma_is_whole, hash_ends, trimmed_head, trimmed_read, IsSettled}
 use Rattle.toml_formatter.proofs.Values.{closing_ends, closing_head, closing_role, closing_whole, ShowsClosing}

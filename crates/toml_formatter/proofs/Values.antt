@@ -22,8 +22,7 @@ use Rattle.toml_formatter.specs.Gaps.{gap_items, least_of, least_needed}
 use Rattle.toml_formatter.specs.Kinds.{is_closing, is_opening, last_after_word, last_after, IsPart}
 use Rattle.toml_lexemes.specs.Sound.{IsSound, IsSoundIn, LineEndsNext}
 use Rattle.toml_formatter.specs.Lines.{directly_after, EndsAs, EndsCollected, HoldsNothingAfter, WaitingComments, waiting, LineRead}
-use Rattle.toml_formatter.specs.Lines.{ShowsTaken}
-use Rattle.toml_formatter.specs.Lines.{ValueRead, IsValue, ClosedRead, IsClosed}
+use Rattle.toml_formatter.specs.Lines.{ShowsTaken, ValueRead, IsValue, ClosedRead, IsClosed}
 use Rattle.std.proofs.lemmas.Bool.{eqb-true, or_cases}
 use Rattle.toml_lexemes.proofs.WholeLexemes.{quote_role, word_role}
 use Rattle.toml_formatter.proofs.LineLemmas.{hash_role, IsSettled}

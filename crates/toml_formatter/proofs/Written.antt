@@ -42,7 +42,7 @@ use Rattle.toml_grammar.specs.declared.turn.LexemeTurn.TheVariants.{Stops}
 use Rattle.toml_grammar.proofs.Allowed.{sort_string}
 use Rattle.toml_grammar.proofs.GapLaws.{key_words_are_joined}
 use Rattle.toml_grammar.specs.declared.expected.Expected.TheVariants as want
-use Rattle.toml_formatter.specs.Spellings.{AreWritten, Bit, end_of_line, text_of}
+use Rattle.prettyless_laws.specs.Bits.{AreWritten, Bit, end_of_line, text_of}
 use Rattle.toml_formatter.proofs.Aligning.{spaces_gap}
 use Rattle.toml_formatter.proofs.Walking.{one_spaced}
 

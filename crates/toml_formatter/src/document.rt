@@ -12,17 +12,21 @@ ghost use Rattle.toml_grammar.specs.Nesting.{is_too_deep};
 ghost use Rattle.toml_formatter.specs.Documents.{lines_with};
 ghost use Rattle.toml_formatter.specs.Errors.{IsFormatMemory, IsRefusalOf};
 ghost use Rattle.toml_formatter.specs.Formats.{HasTomlOptions, IsLaidToml, IsTomlLayout};
-ghost use Rattle.toml_formatter.specs.Presses.{blank_after, AddsLines, EndsHard, IsPressed};
+ghost use Rattle.toml_formatter.specs.Presses.{blank_after, AddsLines, IsPressed};
+ghost use Rattle.prettyless_laws.specs.InTurn.{EndsHard};
 
+use bumpalo::Bump;
 use crate::ahead::Ahead;
 use crate::error::FormatError;
 use crate::list::Setting;
 use crate::sheet::Sheet;
 use crate::statement::statement;
 use crate::style::Style;
-use bumpalo::Bump;
-use prettyless::{Arena, DocPtr, RefDoc, RenderError, RenderOptions};
+use prettyless_doc::DocPtr;
+use prettyless_model::options::RenderOptions;
+use prettyless_pointers::{Arena, RefDoc};
 use prettyless_shapes::{ended, nil};
+use prettyless_sink::error::RenderError;
 use std::alloc::{AllocError, Global};
 use toml_lexemes::Lexeme;
 

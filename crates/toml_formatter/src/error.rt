@@ -2,7 +2,7 @@ ghost use Rattle.std.specs.Prelude.{◌≡◌};
 ghost use Rattle.toml_formatter.specs.Errors.{IsFormatMemory};
 ghost use Rattle.toml_formatter.specs.declared.error.FormatError.TheVariants.{Memory};
 
-use prettyless::text::BuildError;
+use prettyless_text::BuildError;
 use std::alloc::AllocError;
 
 /// Why a text was not formatted.

@@ -10,7 +10,7 @@ ghost use Rattle.toml_lexemes.specs.Sound.{AreSound};
 use crate::document::{Press, lay_text};
 use crate::error::FormatError;
 use crate::style::Style;
-use prettyless::{IndentationPolicy, LineEnding, RenderOptions};
+use prettyless_model::options::{IndentationPolicy, LineEnding, RenderOptions};
 use std::alloc::Global;
 use toml_grammar::{fault_of, law_closed_strings};
 use toml_lexemes::{Lexeme, SpacedLexer};

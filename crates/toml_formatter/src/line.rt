@@ -18,9 +18,9 @@ use crate::gaps::{before, before_comma, before_comment};
 use crate::kind::{Kind, Last, last_of};
 use crate::parts::{apart, broken_if, trailed, uncounted};
 use crate::trim::trimmed;
-use prettyless::text::BuildError;
-use prettyless::{Arena, RefDoc};
+use prettyless_pointers::{Arena, RefDoc};
 use prettyless_shapes::{joined, nil, text};
+use prettyless_text::BuildError;
 use toml_lexemes::Lexeme;
 
 /// The lexemes of a line or of a list so far. A comma that was taken waits for what comes after it, and comments wait for

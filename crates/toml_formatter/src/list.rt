@@ -20,7 +20,7 @@ use crate::line::Line;
 use crate::numbers::kind_before;
 use crate::parts::{apart, lexeme};
 use crate::style::Style;
-use prettyless::{Arena, RefDoc};
+use prettyless_pointers::{Arena, RefDoc};
 use prettyless_shapes::{grouped, indented, joined, text};
 use toml_lexemes::Lexeme;
 

@@ -13,9 +13,11 @@ ghost use Rattle.toml_formatter.specs.Documents.{broken_if, is_line_feed_byte, l
 ghost use Rattle.toml_formatter.specs.Gaps.{gap_items};
 
 use crate::gaps::Gap;
-use prettyless::text::{BuildError, Text};
-use prettyless::{BuildDoc, Doc, DocAllocator, DocBuilder, DocPlace, Pretty};
+use prettyless_alloc::DocAllocator;
+use prettyless_build::{DocBuilder, Pretty};
+use prettyless_doc::{BuildDoc, Doc, DocPlace};
 use prettyless_shapes::{broken, ended, joined, lined, spaced, stacked, text};
+use prettyless_text::{BuildError, Text};
 
 /// A lexeme, as it is spelled. Where it has several lines, the groups around it are not flat.
 pub(crate) fn lexeme<'a, D: DocPlace<'a>>(

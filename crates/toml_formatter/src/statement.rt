@@ -20,7 +20,7 @@ use crate::kind::{Kind, Last, closes, last_of};
 use crate::line::Line;
 use crate::list::{Setting, value};
 use crate::trim::trimmed;
-use prettyless::RefDoc;
+use prettyless_pointers::RefDoc;
 use prettyless_shapes::{joined, text};
 use toml_grammar::MAX_DEPTH;
 use toml_lexemes::Lexeme;

@@ -3,8 +3,8 @@ use Rattle.std.proofs.lemmas.Result.{on_ok_weaker}
 use Rattle.prettyless_model.specs.Built.{append}
 use Rattle.prettyless_model.specs.Tree.{Tree, HardLine}
 use Rattle.prettyless_pointers.specs.Trees.{ref_tree}
-use Rattle.toml_formatter.specs.Presses.{EndsHard}
-use Rattle.toml_formatter.proofs.InTurn.{ends_hard}
+use Rattle.prettyless_laws.specs.InTurn.{EndsHard}
+use Rattle.prettyless_laws.proofs.InTurn.{ends_hard}
 use Rattle.toml_formatter.proofs.PressLemmas.{blank_added}
 use Rattle.toml_formatter.proofs.document.Laid.push_blank.Goals as goal
 

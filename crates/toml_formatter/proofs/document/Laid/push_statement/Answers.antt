@@ -2,8 +2,9 @@ use Rattle.std.proofs.Common.{sym, subst}
 use Rattle.prettyless_model.specs.Built.{append}
 use Rattle.prettyless_model.specs.Tree.{Tree}
 use Rattle.prettyless_pointers.specs.Trees.{ref_tree}
-use Rattle.toml_formatter.specs.Presses.{AddsLines, EndsHard}
-use Rattle.toml_formatter.proofs.InTurn.{ends_hard}
+use Rattle.toml_formatter.specs.Presses.{AddsLines}
+use Rattle.prettyless_laws.specs.InTurn.{EndsHard}
+use Rattle.prettyless_laws.proofs.InTurn.{ends_hard}
 use Rattle.toml_formatter.proofs.PressLemmas.{statement_added}
 use Rattle.toml_formatter.proofs.document.Laid.push_statement.Goals as goal
 

@@ -5,8 +5,7 @@ use Rattle.prettyless_model.specs.Levels.{settle, settle_end}
 use Rattle.prettyless_model.specs.declared.mode.Mode.TheVariants.{Break}
 use Rattle.prettyless_model.proofs.Levels.{layout_is}
 use Rattle.prettyless_laws.proofs.Following.{alike_same}
-use Rattle.toml_formatter.proofs.Again.{IsLaidLike}
-use Rattle.toml_formatter.proofs.AgainLaws.{LayoutsStay}
+use Rattle.prettyless_laws.proofs.Again.{IsLaidLike, LayoutsStay}
 
 whole_like : (x y : Outcome) (next : State → Outcome) (bytes : List ℕ) → IsLaidLike x y → bytes_of (and_then x next) ≡ Whole bytes
     → bytes_of (and_then y next) ≡ Whole bytes

@@ -4,9 +4,9 @@ use Rattle.std.proofs.Common.{append-nil, inl, inr, length}
 use Rattle.prettyless_model.specs.Built.{append, append_to}
 use Rattle.prettyless_model.specs.Options.{ending}
 use Rattle.prettyless_model.specs.Spaces.{spaces}
-use Rattle.prettyless_model.specs.Tree.{Tree, Nil, Fail, Text, TextWithLen, MultilineText, WeakSpace, HardLine, WeakLine, Append, LineSuffix}
-use Rattle.prettyless_model.specs.Tree.{Nest, DedentToRoot, Align, ExpandParent, Flatten, BreakOrFlat, Group, Union, PartialUnion, OnColumn}
-use Rattle.prettyless_model.specs.Tree.{OnNesting}
+use Rattle.prettyless_model.specs.Tree.{Tree, Nil, Fail, Text, TextWithLen, MultilineText, WeakSpace, HardLine, WeakLine, Append}
+use Rattle.prettyless_model.specs.Tree.{LineSuffix, Nest, DedentToRoot, Align, ExpandParent, Flatten, BreakOrFlat, Group, Union}
+use Rattle.prettyless_model.specs.Tree.{PartialUnion, OnColumn, OnNesting}
 use Rattle.prettyless_model.specs.Choice.{column_holds, nesting_holds}
 use Rattle.prettyless_model.specs.Column.{commit, deferred, gap, nested, padding_fits, prospective, start}
 use Rattle.prettyless_model.specs.Look.{by_mode}
@@ -23,7 +23,7 @@ use Rattle.prettyless_model.specs.declared.options.RenderOptions.{RenderOptions}
 use Rattle.prettyless_model.proofs.Levels.{end_fixed, layout_is}
 use Rattle.prettyless_model.proofs.Outcomes.{after-nil}
 use Rattle.prettyless_laws.proofs.LineEnds.{breaks_read_alike, hard_takes_indent, laid_alike, line_end_hides}
-use Rattle.toml_formatter.specs.Presses.{at_line, AreLines, EndsAtLine, EndsHard}
+use Rattle.prettyless_laws.specs.InTurn.{at_line, AreLines, EndsAtLine, EndsHard}
 
 -- ---- the flag of a state, which no bytes depend on
 

@@ -6,8 +6,8 @@ use Rattle.prettyless_model.specs.Tree.{Tree}
 use Rattle.prettyless_doc.specs.declared.doc.BuildDoc.{BuildDoc}
 use Rattle.prettyless_text.specs.declared.text.BuildError.{BuildError}
 use Rattle.prettyless_build.proofs.Appended.{something}
-use Rattle.prettyless_pointers.specs.Placed.{Places}
-use Rattle.prettyless_pointers.proofs.placed.AnyPlacedDocOf.append.Goals as goal
+use Rattle.prettyless_placed.specs.Placed.{Places}
+use Rattle.prettyless_placed.proofs.placed.AnyPlacedDocOf.append.Goals as goal
 
 -- where the other call fails only by a refusal of memory, so does this one
 memory_alone : {B T : Type 0} (made : Result B BuildError) (doc : B → BuildDoc T) (tree : T → Tree) (result : Result T BuildError)

@@ -5,7 +5,7 @@ use Rattle.prettyless_model.specs.Column.{nested}
 use Rattle.prettyless_model.specs.Layout.{Entry, State, entry, lay}
 use Rattle.prettyless_model.specs.Levels.{settle}
 use Rattle.prettyless_model.specs.Look.{look}
-use Rattle.prettyless_model.specs.Tree.{Tree, Nil, Append, Group, Nest}
+use Rattle.prettyless_model.specs.Tree.{Tree, Nil, Append, Group, Nest, is_nil}
 use Rattle.prettyless_model.specs.declared.mode.Mode.{Mode}
 use Rattle.prettyless_model.specs.declared.mode.Mode.TheVariants.{Break, Flat}
 use Rattle.prettyless_model.specs.declared.options.RenderOptions.{RenderOptions}
@@ -14,15 +14,11 @@ use Rattle.prettyless_laws.specs.Parts.{FollowAlike}
 use Rattle.prettyless_laws.proofs.Following.{alike_after, lay_alike}
 use Rattle.prettyless_laws.proofs.LineEnds.{breaks_read_alike}
 use Rattle.prettyless_model.specs.Built.{append, append_to, nest, nest_by}
-use Rattle.prettyless_model.specs.Tree.{is_nil}
-use Rattle.toml_formatter.specs.Spellings.{Bit}
-use Rattle.toml_formatter.proofs.Again.{Again, AreNoModes, IsFailed, IsFlatAgain, IsLaidLike, LooksSame, first_mode, group_mode}
-use Rattle.toml_formatter.proofs.Again.{group_modes}
-use Rattle.toml_formatter.proofs.Again.{later_modes, modes_after, spelled_in}
-use Rattle.toml_formatter.proofs.AgainLaws.{AppendedDocumentsStay, DocumentsStay}
-use Rattle.toml_formatter.proofs.LaidLike.{break_is_not_flat, broken_mode, failed_first, failed_second, first_modes, like_failed, like_same}
-use Rattle.toml_formatter.proofs.LaidLike.{like_then}
-use Rattle.toml_formatter.proofs.LaidLike.{same_mode, second_modes}
+use Rattle.prettyless_laws.specs.Bits.{Bit}
+use Rattle.prettyless_laws.proofs.Again.{Again, AreNoModes, IsFailed, IsFlatAgain, IsLaidLike, LooksSame, first_mode, group_mode}
+use Rattle.prettyless_laws.proofs.Again.{group_modes, later_modes, modes_after, spelled_in, AppendedDocumentsStay, DocumentsStay}
+use Rattle.prettyless_laws.proofs.LaidLike.{break_is_not_flat, broken_mode, failed_first, failed_second, first_modes, like_failed}
+use Rattle.prettyless_laws.proofs.LaidLike.{like_same, like_then, same_mode, second_modes}
 
 -- ---- the same document
 

@@ -1,18 +1,19 @@
 -- Documents that are laid out again: in which modes a layout lays the groups of a document, and what it spells then.
-use Rattle.std.specs.Prelude.{◌≡◌, ℕ, Bool, List, [], ◌∷◌, ◌++◌, ◌⊎◌, ⊤, if◌then◌else◌}
-use Rattle.prettyless_model.specs.Tree.{is_nil}
-use Rattle.prettyless_laws.specs.Parts.{FollowAlike, IsNeverFlat}
+use Rattle.std.specs.Prelude.{◌≡◌, ℕ, Bool, List, [], ◌∷◌, ◌++◌, ◌⊎◌, ⊤, true, if◌then◌else◌}
 use Rattle.prettyless_model.specs.Tree as t
-use Rattle.prettyless_model.specs.Tree.{Tree}
+use Rattle.prettyless_model.specs.Tree.{Tree, is_nil}
+use Rattle.prettyless_model.specs.Built.{append}
 use Rattle.prettyless_model.specs.Indent.{indent_by}
-use Rattle.prettyless_model.specs.Layout.{Done, Entry, Failed, Outcome, State, entry, initial, lay, probe}
+use Rattle.prettyless_model.specs.Layout.{Done, Entry, Failed, Outcome, State, Whole, entry, initial, lay, layout, probe}
 use Rattle.prettyless_model.specs.Levels.{settle}
 use Rattle.prettyless_model.specs.Look.{look}
 use Rattle.prettyless_model.specs.declared.column.Column.{Column}
 use Rattle.prettyless_model.specs.declared.mode.Mode.{Mode}
 use Rattle.prettyless_model.specs.declared.mode.Mode.TheVariants.{Break, Flat}
+use Rattle.prettyless_model.specs.declared.options.IndentationPolicy.TheVariants.{Deferred}
 use Rattle.prettyless_model.specs.declared.options.RenderOptions.{RenderOptions}
-use Rattle.toml_formatter.specs.Spellings.{Bit, end_of_line, word_bits}
+use Rattle.prettyless_laws.specs.Bits.{AreWritten, Bit, IsExact, end_of_line, word_bits}
+use Rattle.prettyless_laws.specs.Parts.{FollowAlike, IsNeverFlat}
 
 -- ---- the modes of groups
 
@@ -112,3 +113,28 @@ pub record Again (x y : Tree) (m : Mode) (ms left : List Mode) (bits : List Bit)
   pub spelled : spelled_in x m ms ≡ bits
   pub laid : (o : RenderOptions) (i : ℕ) (a b : List Entry) (st : State) (more : List Mode) → FollowAlike a b
       → group_modes o x i m a st more ≡ ms → IsLaidLike (lay o (settle o) x i m a st) (lay o (settle o) y i m b st)
+
+-- ---- layouts
+
+-- a document that is laid again has the layout that it had
+abbrev pub LayoutsStay : Type 0
+LayoutsStay =
+    (o : RenderOptions) (x y : Tree) (left : List Mode) (bits : List Bit) (bytes : List ℕ) → Again x y Break (layout_modes o x) left bits
+    → layout o x ≡ Whole bytes → layout o y ≡ Whole bytes
+
+-- a layout is written as its document is spelled in the modes of its groups
+abbrev pub LayoutsAreWrittenByModes : Type 0
+LayoutsAreWrittenByModes =
+    (o : RenderOptions) (d : Tree) (bytes : List ℕ) → o.indentation_policy ≡ Deferred → IsExact d → layout o d ≡ Whole bytes
+    → AreWritten o true (spelled_in d Break (layout_modes o d)) bytes
+
+-- ---- one after another
+
+-- a document is laid again as it is
+abbrev pub DocumentsStay : Type 0
+DocumentsStay = (x : Tree) (m : Mode) (ms : List Mode) → Again x x m ms (modes_after x m ms) (spelled_in x m ms)
+
+abbrev pub AppendedDocumentsStay : Type 0
+AppendedDocumentsStay =
+    (x y u v : Tree) (m : Mode) (ms ns left : List Mode) (xs us : List Bit) → Again x y m ms ns xs → Again u v m ns left us
+    → Again (append x u) (append y v) m ms left (xs ++ us)

@@ -3,8 +3,7 @@ ghost use Rattle.std.specs.Prelude.{◌≡◌, ◌⊎◌, IfOk, IfErr, List};
 ghost use Rattle.std.specs.Cow.{cow_str_bytes};
 ghost use Rattle.std.specs.Iterator.{IsFiniteIterable};
 ghost use Rattle.prettyless_model.specs.Tree.{Tree, Nil, Fail, TextWithLen, WeakSpace, HardLine, WeakLine, ExpandParent, BreakOrFlat};
-ghost use Rattle.prettyless_model.specs.Tree.{Union, OnColumn};
-ghost use Rattle.prettyless_model.specs.Tree.{OnNesting};
+ghost use Rattle.prettyless_model.specs.Tree.{Union, OnColumn, OnNesting};
 ghost use Rattle.prettyless_doc.specs.BuildErrors.{IsMemory};
 ghost use Rattle.prettyless_model.specs.Counted as counted;
 ghost use Rattle.prettyless_doc.specs.DocTree.{built};
@@ -12,7 +11,7 @@ ghost use Rattle.prettyless_model.specs.Lines as lines;
 ghost use Rattle.prettyless_model.specs.Built as to;
 ghost use Rattle.prettyless_build.specs.Builds.{Builds, BuildsOf, BuildsOfTwo, BuildsOrKeeps};
 ghost use Rattle.prettyless_build.specs.Iterated.{GivesAll, GivesSome, HasGap, Concatenates, Intersperses};
-ghost use Rattle.prettyless_pointers.specs.Placed.{Places};
+ghost use Rattle.prettyless_placed.specs.Placed.{Places};
 
 use prettyless_alloc::{DocAllocator, DocAllocatorBetween, DocAllocatorOfTwo, DocAllocatorOver};
 use prettyless_build::{DocBuilder, Pretty};

@@ -15,10 +15,10 @@ use Rattle.prettyless_model.specs.declared.options.IndentationPolicy.{Indentatio
 use Rattle.prettyless_model.specs.declared.options.IndentationPolicy.TheVariants.{Deferred}
 use Rattle.prettyless_model.specs.declared.options.RenderOptions.{RenderOptions}
 use Rattle.prettyless_model.proofs.Levels.{end_fixed, layout_is}
-use Rattle.toml_formatter.proofs.Again.{first_mode, group_mode, group_modes, later_modes, layout_modes, modes_after, spelled_in}
-use Rattle.toml_formatter.proofs.AgainLaws.{LayoutsAreWrittenByModes}
-use Rattle.toml_formatter.proofs.LaidLike.{first_modes, second_modes}
-use Rattle.toml_formatter.specs.Spellings.{AreWritten, Bit, IsExact, IsSpelled, end_of_line, text_of, word_bits}
+use Rattle.prettyless_laws.proofs.Again.{first_mode, group_mode, group_modes, later_modes, layout_modes, modes_after, spelled_in}
+use Rattle.prettyless_laws.proofs.Again.{LayoutsAreWrittenByModes}
+use Rattle.prettyless_laws.proofs.LaidLike.{first_modes, second_modes}
+use Rattle.prettyless_laws.specs.Bits.{AreWritten, Bit, IsExact, IsSpelled, end_of_line, text_of, word_bits}
 
 -- ---- what is written
 

@@ -14,7 +14,7 @@ use Rattle.prettyless_model.specs.declared.options.RenderOptions.{RenderOptions}
 use Rattle.prettyless_model.proofs.Looks.{answer-same}
 use Rattle.prettyless_laws.specs.Parts.{FollowAlike, IsNeverFlat}
 use Rattle.prettyless_laws.proofs.NeverFlat.{never_flat_is_broken}
-use Rattle.toml_formatter.proofs.Again.{IsFailed, IsLaidLike, LooksSame, group_mode, group_modes, modes_after, modes_then}
+use Rattle.prettyless_laws.proofs.Again.{IsFailed, IsLaidLike, LooksSame, group_mode, group_modes, modes_after, modes_then}
 
 -- ---- outcomes
 
