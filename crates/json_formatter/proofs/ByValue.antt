@@ -7,7 +7,7 @@ use Rattle.prettyless_model.specs.Layout.{Whole, bytes_in, breaks, initial, lay,
 use Rattle.prettyless_model.specs.Options.{options_at}
 use Rattle.prettyless_model.specs.Tree.{size, Tree, Nil}
 use Rattle.prettyless_laws.proofs.LineEnds.{layout_ends}
-use Rattle.prettyless_model.specs.Built.{append}
+use Rattle.prettyless_trees.specs.Built.{append}
 use Rattle.json_formatter.specs.declared.style.Style.{Style}
 use Rattle.json_formatter.specs.BlankLines.{with_kept_lines}
 use Rattle.json_formatter.specs.ByValue.{LayoutsGoByValues, TextsAreLaidByValues, laid_value}

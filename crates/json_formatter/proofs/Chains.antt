@@ -4,9 +4,9 @@ use Rattle.std.specs.Prelude.{pos}
 use Rattle.std.specs.List.{fold}
 use Rattle.json.specs.Word.{ends_word}
 use Rattle.prettyless_model.specs.Metrics.{is_ascii}
-use Rattle.prettyless_model.specs.Built.{IsNotNil, append, enclose, group, nest}
-use Rattle.prettyless_model.specs.Counted.{text}
-use Rattle.prettyless_model.specs.Lines.{space}
+use Rattle.prettyless_trees.specs.Built.{IsNotNil, append, enclose, group, nest}
+use Rattle.prettyless_trees.specs.Counted.{text}
+use Rattle.prettyless_trees.specs.Lines.{space}
 use Rattle.prettyless_model.specs.Tree.{Tree, Nil, Text, Append, Group}
 use Rattle.json_formatter.specs.declared.style.Style.{Style}
 use Rattle.json_formatter.specs.ByValue.{items_fill}

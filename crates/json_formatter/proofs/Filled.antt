@@ -11,9 +11,9 @@ use Rattle.prettyless_model.specs.Look.{look}
 use Rattle.prettyless_model.proofs.Looks.{answer-then}
 use Rattle.prettyless_laws.proofs.Inline.{group_is_text, unfit_is_broken}
 use Rattle.prettyless_model.specs.Options.{options_at}
-use Rattle.prettyless_model.specs.Built.{softline}
-use Rattle.prettyless_model.specs.Counted.{text}
-use Rattle.prettyless_model.specs.Lines.{line, space}
+use Rattle.prettyless_trees.specs.Built.{softline}
+use Rattle.prettyless_trees.specs.Counted.{text}
+use Rattle.prettyless_trees.specs.Lines.{line, space}
 use Rattle.prettyless_model.specs.Tree.{Tree, Text, Append}
 use Rattle.json_formatter.specs.declared.style.Style.{Style}
 use Rattle.json_formatter.specs.ByValue.{filled_after, filled_lines, item_comma, items_fill, new_line}

@@ -4,9 +4,9 @@ use Rattle.std.proofs.Common.{length, append_assoc, append-nil, inl, inr, arith}
 use Rattle.std.specs.Prelude.{pos}
 use Rattle.json.specs.Word.{ends_word}
 use Rattle.prettyless_model.specs.Metrics.{text_width}
-use Rattle.prettyless_model.specs.Built.{IsNotNil, append, nest}
-use Rattle.prettyless_model.specs.Counted.{text}
-use Rattle.prettyless_model.specs.Lines.{space}
+use Rattle.prettyless_trees.specs.Built.{IsNotNil, append, nest}
+use Rattle.prettyless_trees.specs.Counted.{text}
+use Rattle.prettyless_trees.specs.Lines.{space}
 use Rattle.prettyless_model.specs.Tree.{Tree, Text, Append, Group}
 use Rattle.json_formatter.specs.declared.style.Style.{Style}
 use Rattle.json_formatter.specs.ByValue.{brace_blank, flat, item_comma, items_fill, items_kept, kept_if, member_comma, members_kept}

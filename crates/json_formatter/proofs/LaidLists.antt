@@ -9,9 +9,9 @@ use Rattle.prettyless_model.specs.Column.{saturating_add}
 use Rattle.prettyless_model.specs.Metrics.{text_width}
 use Rattle.prettyless_model.specs.Layout.{State, Entry, Breaks, breaks, entry, lay}
 use Rattle.prettyless_model.specs.Options.{options_at}
-use Rattle.prettyless_model.specs.Built.{IsNotNil, append, nest}
-use Rattle.prettyless_model.specs.Counted.{text}
-use Rattle.prettyless_model.specs.Lines.{line, space}
+use Rattle.prettyless_trees.specs.Built.{IsNotNil, append, nest}
+use Rattle.prettyless_trees.specs.Counted.{text}
+use Rattle.prettyless_trees.specs.Lines.{line, space}
 use Rattle.prettyless_model.specs.Tree.{Tree, Nil, Text, Append, Group, HardLine, BreakOrFlat}
 use Rattle.json_formatter.specs.declared.style.Style.{Style}
 use Rattle.json_formatter.specs.ByValue.{fits_width, after_key, item_comma, member_comma, inner, new_line}

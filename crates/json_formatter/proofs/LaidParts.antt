@@ -15,8 +15,8 @@ use Rattle.prettyless_model.specs.Look.{GoesOn, Answers, answer_of, look_text}
 use Rattle.prettyless_model.specs.Options.{options_at}
 use Rattle.prettyless_model.specs.Spaces.{spaces}
 use Rattle.prettyless_model.specs.Tree.{Tree, Text, TextWithLen, HardLine, Append, BreakOrFlat, Group}
-use Rattle.prettyless_model.specs.Built.{nest}
-use Rattle.prettyless_model.specs.Counted.{text}
+use Rattle.prettyless_trees.specs.Built.{nest}
+use Rattle.prettyless_trees.specs.Counted.{text}
 use Rattle.prettyless_laws.specs.Parts.{IsInline, flat_bytes, flat_columns, text_fits}
 use Rattle.prettyless_laws.proofs.Inline.{group_is_text, unfit_is_broken}
 use Rattle.prettyless_laws.proofs.LineEnds.{hard_ends_line}

@@ -3,7 +3,7 @@ use Rattle.std.proofs.Common.{◌≡◌, refl, ◌∙◌, ap, subst, ℕ, ◌≤
 use Rattle.std.specs.Prelude.{if◌then◌else◌}
 use Rattle.json.specs.Word.{ends_word}
 use Rattle.prettyless_model.specs.Layout.{State, Entry}
-use Rattle.prettyless_model.specs.Built.{append}
+use Rattle.prettyless_trees.specs.Built.{append}
 use Rattle.json_formatter.specs.declared.style.Style.{Style}
 use Rattle.json_formatter.specs.ByValue.{laid_value, items_fill, after_key, flat, filled_lines, item_lines, member_lines, item_comma}
 use Rattle.json_formatter.specs.ByValue.{member_comma, inner, new_line, value_width}

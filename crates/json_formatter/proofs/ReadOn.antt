@@ -1,6 +1,6 @@
 -- The results of the code's steps: each reads on where the one before it stopped.
 use Rattle.std.proofs.Common.{◌≡◌, refl, ℕ, zero, suc, false, List, ◌∷◌}
-use Rattle.prettyless_model.specs.Counted.{text}
+use Rattle.prettyless_trees.specs.Counted.{text}
 use Rattle.prettyless_model.specs.Tree.{Tree}
 use Rattle.json_formatter.specs.declared.style.Style.{Style}
 use Rattle.json_formatter.specs.Documents.{Reader, read, opens, with_value, with_comma, member, value}

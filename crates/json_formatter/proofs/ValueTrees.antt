@@ -5,9 +5,9 @@ use Rattle.std.specs.Prelude.{pos}
 use Rattle.std.proofs.lemmas.Bool.{or_parts}
 use Rattle.json.specs.Ascii as ascii
 use Rattle.json.specs.Word.{is_operator, is_space, head, ends_word}
-use Rattle.prettyless_model.specs.Built.{append}
-use Rattle.prettyless_model.specs.Counted.{text}
-use Rattle.prettyless_model.specs.Lines.{space}
+use Rattle.prettyless_trees.specs.Built.{append}
+use Rattle.prettyless_trees.specs.Counted.{text}
+use Rattle.prettyless_trees.specs.Lines.{space}
 use Rattle.prettyless_model.specs.Tree.{Tree, Text, TextWithLen}
 use Rattle.json_formatter.specs.declared.style.Style.{Style}
 use Rattle.json_formatter.specs.declared.style.Fill.{Fill}

@@ -7,13 +7,13 @@ use Rattle.std.specs.List.{fold, list_all}
 use Rattle.json.specs.Ascii as ascii
 use Rattle.json_validity.specs.Document.{max_depth}
 use Rattle.json.specs.Word.{head}
-use Rattle.prettyless_model.specs.Built.{append, enclose, group, nest, softline}
-use Rattle.prettyless_model.specs.Counted.{text}
+use Rattle.prettyless_trees.specs.Built.{append, enclose, group, nest, softline}
+use Rattle.prettyless_trees.specs.Counted.{text}
 use Rattle.prettyless_model.specs.Layout.{bytes_in, layout}
-use Rattle.prettyless_model.specs.Lines.{line, line_, space}
+use Rattle.prettyless_trees.specs.Lines.{line, line_, space}
 use Rattle.prettyless_model.specs.Options.{options_at}
 use Rattle.prettyless_model.specs.Tree.{Tree, Nil, TextWithLen}
-use Rattle.prettyless_model.specs.Words.{intersperse}
+use Rattle.prettyless_trees.specs.Words.{intersperse}
 use Rattle.json_formatter.specs.declared.style.Fill.{Fill}
 use Rattle.json_formatter.specs.declared.style.Fill.TheVariants as fill
 use Rattle.json_formatter.specs.declared.style.Style.{Style}

@@ -1,6 +1,6 @@
 ghost use Rattle.std.specs.Prelude.{IfOk, IfErr};
 ghost use Rattle.prettyless_doc.specs.DocTree.{built};
-ghost use Rattle.prettyless_model.specs.Built.{joined};
+ghost use Rattle.prettyless_trees.specs.Built.{joined};
 ghost use Rattle.prettyless_build.specs.Builds.{refused};
 
 use prettyless_build::{DocBuilder, Pretty};

@@ -1,6 +1,6 @@
 -- Texts of spaces: how many there are.
 use Rattle.std.proofs.Common.{ℕ, suc, zero, ◌<◌, ◌/◌, arith}
-use Rattle.prettyless_model.specs.Built.{IsNotNil, hundreds}
+use Rattle.prettyless_trees.specs.Built.{IsNotNil, hundreds}
 
 -- what is something holds a hundred
 pub hundreds_of_some : (n : ℕ) → IsNotNil (hundreds n) → 0 < n

@@ -1,11 +1,11 @@
 -- Punctuation after all documents but the last, and brackets around some documents.
 use Rattle.std.proofs.Common.{◌≡◌, refl, sym, ◌∙◌, ap, ◌<◌, ℤ, arith, List, [], ◌∷◌, ◌++◌, length, map}
 use Rattle.std.proofs.lemmas.List.{map-append}
-use Rattle.prettyless_model.specs.Lines.{line, line_}
+use Rattle.prettyless_trees.specs.Lines.{line, line_}
 use Rattle.prettyless_model.specs.Tree.{Tree}
-use Rattle.prettyless_model.specs.Built.{append, enclose, group, nest}
-use Rattle.prettyless_model.specs.Lists.{change_all_but_last, punctuated, bracketed}
-use Rattle.prettyless_model.specs.Words.{intersperse}
+use Rattle.prettyless_trees.specs.Built.{append, enclose, group, nest}
+use Rattle.prettyless_trees.specs.Lists.{change_all_but_last, punctuated, bracketed}
+use Rattle.prettyless_trees.specs.Words.{intersperse}
 
 module _ {A : Type 0} (f : A → A) where
   -- of items and a last one each of the items is changed

@@ -8,11 +8,11 @@ use Rattle.std.specs.Str.{encode_utf8_all, NonePass}
 use Rattle.std.specs.Str.Iter.{split_steps, split_text, split_has_more, split_pattern}
 use Rattle.std.specs.Str.Pattern.{FindsBy}
 use Rattle.std.proofs.lemmas.Str.{encodes_same, cons_from_encodes, len_utf8_bounds}
-use Rattle.prettyless_model.specs.Counted as counted
+use Rattle.prettyless_trees.specs.Counted as counted
 use Rattle.prettyless_model.specs.Tree.{Tree}
-use Rattle.prettyless_model.specs.Built.{append, softline}
+use Rattle.prettyless_trees.specs.Built.{append, softline}
 use Rattle.prettyless_build.specs.Iterated.{appends_after, Intersperses}
-use Rattle.prettyless_model.specs.Words.{onto_first, cut_at_whitespace, intersperse}
+use Rattle.prettyless_trees.specs.Words.{onto_first, cut_at_whitespace, intersperse}
 use denote.Ref.{Bor}
 use Rattle.std.specs.declared.str.Split.{Split}
 

@@ -2,8 +2,9 @@
 use Rattle.std.proofs.Common.{◌≡◌, refl, sym, ◌∙◌, ap, subst, true, false, List, [], ◌∷◌, Option, Some}
 use Rattle.std.specs.Iterator.{Drains}
 use Rattle.std.specs.List.{FoldsTo}
-use Rattle.prettyless_model.specs.Tree.{is_nil, Tree, Nil, Append}
-use Rattle.prettyless_model.specs.Built.{IsNotNil, append, append_to, appends}
+use Rattle.prettyless_model.specs.Tree.{Tree, Nil, Append}
+use Rattle.prettyless_trees.specs.Built.{is_nil}
+use Rattle.prettyless_trees.specs.Built.{IsNotNil, append, append_to, appends}
 use Rattle.prettyless_build.specs.Iterated.{GivesNext, GivesTwo, appends_after}
 
 module _ {S A : Type 0} (steps : S → Option A → S → Type 0) (it j : S) (x : A) (step : steps it (Some x) j) where

@@ -1,12 +1,12 @@
 //! Documents of a vector between brackets.
 ghost use Rattle.std.specs.Prelude.{map};
-ghost use Rattle.prettyless_model.specs.Counted as counted;
+ghost use Rattle.prettyless_trees.specs.Counted as counted;
 ghost use Rattle.prettyless_doc.specs.DocTree.{built};
-ghost use Rattle.prettyless_model.specs.Lines as lines;
-ghost use Rattle.prettyless_model.specs.Built as to;
+ghost use Rattle.prettyless_trees.specs.Lines as lines;
+ghost use Rattle.prettyless_trees.specs.Built as to;
 ghost use Rattle.prettyless_build.specs.Builds.{Builds};
-ghost use Rattle.prettyless_model.specs.Lists as lists;
-ghost use Rattle.prettyless_model.specs.Words as words;
+ghost use Rattle.prettyless_trees.specs.Lists as lists;
+ghost use Rattle.prettyless_trees.specs.Words as words;
 
 use crate::allocator::DocAllocator;
 use prettyless_build::{DocBuilder, Pretty};

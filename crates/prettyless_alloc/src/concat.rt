@@ -4,7 +4,7 @@ ghost use Rattle.std.specs.Iterator.{IsFinite, IsFiniteIterable, Drains};
 ghost use Rattle.std.specs.List.{FoldsTo};
 ghost use Rattle.prettyless_doc.specs.BuildErrors.{IsMemory};
 ghost use Rattle.prettyless_doc.specs.DocTree.{built};
-ghost use Rattle.prettyless_model.specs.Built.{appends};
+ghost use Rattle.prettyless_trees.specs.Built.{appends};
 ghost use Rattle.prettyless_build.specs.Iterated.{GivesAll, GivesSome, GivesNext, Concatenates};
 
 use prettyless_build::{DocBuilder, Pretty};

@@ -6,7 +6,7 @@ ghost use Rattle.prettyless_doc.specs.BuildErrors.{IsMemory};
 ghost use Rattle.prettyless_doc.specs.DocTree.{built};
 ghost use Rattle.prettyless_model.specs.Tree.{Tree};
 ghost use Rattle.prettyless_build.specs.Builds.{Builds};
-ghost use Rattle.prettyless_model.specs.Built.{IsNotNil, append};
+ghost use Rattle.prettyless_trees.specs.Built.{IsNotNil, append};
 ghost use Rattle.prettyless_build.specs.Iterated.{GivesAll, GivesSome, GivesNext, HasGap, Intersperses, appends_after};
 
 use crate::concat::append_all;

@@ -2,8 +2,8 @@
 ghost use Rattle.std.specs.Prelude.{◌≡◌, IfOk, IfErr, map};
 ghost use Rattle.prettyless_doc.specs.BuildErrors.{IsMemory};
 ghost use Rattle.prettyless_doc.specs.DocTree.{built};
-ghost use Rattle.prettyless_model.specs.Built.{append};
-ghost use Rattle.prettyless_model.specs.Lists as lists;
+ghost use Rattle.prettyless_trees.specs.Built.{append};
+ghost use Rattle.prettyless_trees.specs.Lists as lists;
 
 use prettyless_build::DocBuilder;
 use prettyless_doc::{BuildError, DocPlace};

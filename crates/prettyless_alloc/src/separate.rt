@@ -2,7 +2,7 @@
 ghost use Rattle.std.specs.Prelude.{map};
 ghost use Rattle.prettyless_doc.specs.DocTree.{built};
 ghost use Rattle.prettyless_build.specs.Builds.{Builds};
-ghost use Rattle.prettyless_model.specs.Words.{intersperse};
+ghost use Rattle.prettyless_trees.specs.Words.{intersperse};
 
 use crate::intersperse::join_after;
 use prettyless_build::DocBuilder;

@@ -2,9 +2,9 @@
 ghost use Rattle.std.specs.Prelude.{◌≡◌};
 ghost use Rattle.prettyless_doc.specs.BuildErrors.{IsMemory};
 ghost use Rattle.prettyless_doc.specs.DocTree.{built};
-ghost use Rattle.prettyless_model.specs.Built as to;
+ghost use Rattle.prettyless_trees.specs.Built as to;
 ghost use Rattle.prettyless_build.specs.Builds.{Builds};
-ghost use Rattle.prettyless_model.specs.Words as words;
+ghost use Rattle.prettyless_trees.specs.Words as words;
 
 use crate::allocator::DocAllocator;
 use crate::intersperse::DocAllocatorBetween;

@@ -1,7 +1,8 @@
 -- Trees that are appended to one another, where they are nothing and where they are something.
 use Rattle.std.proofs.Common.{◌≡◌, refl, sym, ap, subst, ◌∙◌, Bool, true, false}
-use Rattle.prettyless_model.specs.Tree.{is_nil, Tree, Nil, Append}
-use Rattle.prettyless_model.specs.Built.{append, append_to, enclose, IsNotNil}
+use Rattle.prettyless_model.specs.Tree.{Tree, Nil, Append}
+use Rattle.prettyless_trees.specs.Built.{is_nil}
+use Rattle.prettyless_trees.specs.Built.{append, append_to, enclose, IsNotNil}
 
 -- the tree of which it is said is Nil
 nil_from : (x : Tree) → is_nil x ≡ true → Nil ≡ x

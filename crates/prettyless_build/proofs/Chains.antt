@@ -1,7 +1,7 @@
 -- So many copies of a tree.
 use Rattle.std.proofs.Common.{◌≡◌, ℕ, suc, zero, ◌≤◌, ◌+◌, ◌-◌, arith, ap, ◌∙◌}
 use Rattle.prettyless_model.specs.Tree.{Tree, Append}
-use Rattle.prettyless_model.specs.Built.{chain, repeat}
+use Rattle.prettyless_trees.specs.Built.{chain, repeat}
 
 -- more copies than one
 pub repeat_more : (n : ℕ) (x : Tree) → 2 ≤ n → Append (chain (n - 2) x) x ≡ repeat n x

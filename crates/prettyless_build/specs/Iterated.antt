@@ -3,7 +3,7 @@ use Rattle.std.specs.Prelude.{◌≡◌, List, [], ◌∷◌, Option, Some}
 use Rattle.std.specs.Iterator.{Drains, YieldsThen}
 use Rattle.std.specs.List.{FoldsTo}
 use Rattle.prettyless_model.specs.Tree.{Tree, Nil}
-use Rattle.prettyless_model.specs.Built.{append, appends}
+use Rattle.prettyless_trees.specs.Built.{append, appends}
 
 -- walked on from a state, an iterator gives an item with P
 abbrev pub GivesNext : {S A : Type 0} → (S → Option A → S → Type 0) → S → (A → Type 0) → Type 0

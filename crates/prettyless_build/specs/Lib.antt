@@ -3,7 +3,7 @@ pub mod Iterated
 pub use Rattle.prettyless_doc.specs.BuildErrors
 pub use Rattle.prettyless_doc.specs.DocTree
 pub use Rattle.prettyless_doc.specs.TextBytes
-pub use Rattle.prettyless_model.specs.Built
-pub use Rattle.prettyless_model.specs.Counted
-pub use Rattle.prettyless_model.specs.Lines
+pub use Rattle.prettyless_trees.specs.Built
+pub use Rattle.prettyless_trees.specs.Counted
+pub use Rattle.prettyless_trees.specs.Lines
 pub use Rattle.prettyless_model.specs.Tree

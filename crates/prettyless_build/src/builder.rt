@@ -3,7 +3,7 @@ ghost use Rattle.prettyless_model.specs.Tree.{Tree, Fail};
 ghost use Rattle.prettyless_doc.specs.BuildErrors.{IsMemory};
 ghost use Rattle.prettyless_doc.specs.DocTree.{tree_of, built};
 ghost use Rattle.prettyless_doc.specs.declared.doc.BuildDoc.TheVariants.{DocPtr as Placed, Doc as Plain};
-ghost use Rattle.prettyless_model.specs.Built as to;
+ghost use Rattle.prettyless_trees.specs.Built as to;
 ghost use Rattle.prettyless_build.specs.Builds.{BuildsOrKeeps, IfPlaced};
 
 use crate::nodes::around;

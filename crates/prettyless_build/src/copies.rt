@@ -2,7 +2,7 @@
 ghost use Rattle.std.specs.Prelude.{◌≡◌, ◌<◌, IfOk, IfErr};
 ghost use Rattle.prettyless_doc.specs.BuildErrors.{IsMemory};
 ghost use Rattle.prettyless_doc.specs.DocTree.{built};
-ghost use Rattle.prettyless_model.specs.Built as to;
+ghost use Rattle.prettyless_trees.specs.Built as to;
 ghost use Rattle.prettyless_build.specs.Builds.{Builds};
 
 use crate::builder::DocBuilder;

@@ -3,7 +3,7 @@ ghost use Rattle.std.specs.Prelude.{◌≡◌};
 ghost use Rattle.std.specs.Cow.{cow_str_bytes};
 ghost use Rattle.std.specs.String.{string_bytes};
 ghost use Rattle.prettyless_doc.specs.BuildErrors.{IsMemory};
-ghost use Rattle.prettyless_model.specs.Counted as counted;
+ghost use Rattle.prettyless_trees.specs.Counted as counted;
 ghost use Rattle.prettyless_doc.specs.TextBytes.{IsOwnedAnd};
 
 use crate::builder::DocBuilder;

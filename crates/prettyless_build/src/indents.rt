@@ -1,7 +1,7 @@
 //! Documents with another indent, in columns.
 ghost use Rattle.std.specs.Prelude.{◌≤◌, ◌-◌, ◌^◌, pos, neg_ℤ};
 ghost use Rattle.prettyless_doc.specs.DocTree.{built};
-ghost use Rattle.prettyless_model.specs.Built as to;
+ghost use Rattle.prettyless_trees.specs.Built as to;
 ghost use Rattle.prettyless_build.specs.Builds.{BuildsOrKeeps};
 
 use crate::builder::DocBuilder;

@@ -6,7 +6,7 @@ ghost use Rattle.std.specs.Prelude.{◌≡◌, ◌⊎◌, IfOk, IfErr, IsOkAnd, 
 ghost use Rattle.prettyless_model.specs.Tree.{Tree};
 ghost use Rattle.prettyless_doc.specs.BuildErrors.{IsMemory};
 ghost use Rattle.prettyless_doc.specs.DocTree.{built};
-ghost use Rattle.prettyless_model.specs.Built.{append, joined};
+ghost use Rattle.prettyless_trees.specs.Built.{append, joined};
 ghost use Rattle.prettyless_build.specs.Builds.{refused};
 
 use crate::builder::DocBuilder;

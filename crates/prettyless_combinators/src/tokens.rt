@@ -2,8 +2,8 @@
 ghost use Rattle.std.specs.Prelude.{◌≡◌, ◌<◌};
 ghost use Rattle.prettyless_model.specs.Tree as tree;
 ghost use Rattle.prettyless_doc.specs.BuildErrors.{IsMemory};
-ghost use Rattle.prettyless_model.specs.Built as to;
-ghost use Rattle.prettyless_model.specs.Lines as lines;
+ghost use Rattle.prettyless_trees.specs.Built as to;
+ghost use Rattle.prettyless_trees.specs.Lines as lines;
 
 use prettyless_alloc::DocAllocator;
 use prettyless_build::{DocBuilder, Pretty};

@@ -4,7 +4,7 @@ ghost use Rattle.std.specs.Prelude.{◌≡◌, ◌⊎◌};
 ghost use Rattle.prettyless_model.specs.Tree as tree;
 ghost use Rattle.prettyless_model.specs.Tree.{Tree};
 ghost use Rattle.prettyless_doc.specs.BuildErrors.{IsMemory};
-ghost use Rattle.prettyless_model.specs.Built as to;
+ghost use Rattle.prettyless_trees.specs.Built as to;
 
 use prettyless_alloc::DocAllocatorOf;
 use prettyless_build::{DocBuilder, Pretty};

@@ -2,9 +2,9 @@ pub mod DocTree
 pub mod Parts
 pub mod Rendering
 pub mod Shown
-pub use Rattle.prettyless_model.specs.Breaks
-pub use Rattle.prettyless_model.specs.Counted
-pub use Rattle.prettyless_model.specs.Lines
+pub use Rattle.prettyless_trees.specs.Breaks
+pub use Rattle.prettyless_trees.specs.Counted
+pub use Rattle.prettyless_trees.specs.Lines
 pub use Rattle.prettyless_model.specs.Tree
 pub use Rattle.prettyless_text.specs.BuildErrors
 pub use Rattle.prettyless_text.specs.Payload

@@ -2,9 +2,9 @@
 ghost use Rattle.std.specs.Prelude.{◌≡◌, IfOk, IfErr, IsOk};
 ghost use Rattle.std.specs.Cow.{cow_str_bytes};
 ghost use Rattle.prettyless_doc.specs.BuildErrors.{IsMemory};
-ghost use Rattle.prettyless_model.specs.Counted as to;
+ghost use Rattle.prettyless_trees.specs.Counted as to;
 ghost use Rattle.prettyless_doc.specs.DocTree.{tree_of, built};
-ghost use Rattle.prettyless_model.specs.Lines.{space, line, line_};
+ghost use Rattle.prettyless_trees.specs.Lines.{space, line, line_};
 ghost use Rattle.prettyless_doc.specs.TextBytes.{IfLent};
 ghost use Rattle.prettyless_model.specs.Tree as tree;
 

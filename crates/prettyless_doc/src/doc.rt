@@ -1,5 +1,6 @@
 ghost use Rattle.std.specs.Prelude.{◌≡◌};
-ghost use Rattle.prettyless_model.specs.Tree.{Tree, is_nil};
+ghost use Rattle.prettyless_model.specs.Tree.{Tree};
+ghost use Rattle.prettyless_trees.specs.Built.{is_nil};
 ghost use Rattle.prettyless_doc.specs.DocTree.{tree_of, built};
 
 use crate::text::{MultilineTextData, Text};

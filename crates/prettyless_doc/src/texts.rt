@@ -1,7 +1,7 @@
 //! Documents of texts, with the columns that they count as.
 ghost use Rattle.std.specs.Prelude.{◌≡◌, IfOk, IfErr, IsOk};
 ghost use Rattle.std.specs.Cow.{cow_str_bytes};
-ghost use Rattle.prettyless_model.specs.Counted as to;
+ghost use Rattle.prettyless_trees.specs.Counted as to;
 ghost use Rattle.prettyless_doc.specs.DocTree.{tree_of};
 ghost use Rattle.prettyless_doc.specs.BuildErrors.{IsMemory};
 ghost use Rattle.prettyless_doc.specs.TextBytes.{bytes_of_text, IfLent};

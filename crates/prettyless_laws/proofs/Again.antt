@@ -1,8 +1,9 @@
 -- Documents that are laid out again: in which modes a layout lays the groups of a document, and what it spells then.
 use Rattle.std.specs.Prelude.{◌≡◌, ℕ, Bool, List, [], ◌∷◌, ◌++◌, ◌⊎◌, ⊤, true, if◌then◌else◌}
 use Rattle.prettyless_model.specs.Tree as t
-use Rattle.prettyless_model.specs.Tree.{Tree, is_nil}
-use Rattle.prettyless_model.specs.Built.{append}
+use Rattle.prettyless_model.specs.Tree.{Tree}
+use Rattle.prettyless_trees.specs.Built.{is_nil}
+use Rattle.prettyless_trees.specs.Built.{append}
 use Rattle.prettyless_model.specs.Indent.{indent_by}
 use Rattle.prettyless_model.specs.Layout.{Done, Entry, Failed, Outcome, State, Whole, entry, initial, lay, layout, probe}
 use Rattle.prettyless_model.specs.Levels.{settle}

@@ -5,7 +5,8 @@ use Rattle.prettyless_model.specs.Column.{nested}
 use Rattle.prettyless_model.specs.Layout.{Entry, State, entry, lay}
 use Rattle.prettyless_model.specs.Levels.{settle}
 use Rattle.prettyless_model.specs.Look.{look}
-use Rattle.prettyless_model.specs.Tree.{Tree, Nil, Append, Group, Nest, is_nil}
+use Rattle.prettyless_model.specs.Tree.{Tree, Nil, Append, Group, Nest}
+use Rattle.prettyless_trees.specs.Built.{is_nil}
 use Rattle.prettyless_model.specs.declared.mode.Mode.{Mode}
 use Rattle.prettyless_model.specs.declared.mode.Mode.TheVariants.{Break, Flat}
 use Rattle.prettyless_model.specs.declared.options.RenderOptions.{RenderOptions}
@@ -13,7 +14,7 @@ use Rattle.prettyless_model.proofs.Looks.{look-same}
 use Rattle.prettyless_laws.specs.Parts.{FollowAlike}
 use Rattle.prettyless_laws.proofs.Following.{alike_after, lay_alike}
 use Rattle.prettyless_laws.proofs.LineEnds.{breaks_read_alike}
-use Rattle.prettyless_model.specs.Built.{append, append_to, nest, nest_by}
+use Rattle.prettyless_trees.specs.Built.{append, append_to, nest, nest_by}
 use Rattle.prettyless_laws.specs.Bits.{Bit}
 use Rattle.prettyless_laws.proofs.Again.{Again, AreNoModes, IsFailed, IsFlatAgain, IsLaidLike, LooksSame, first_mode, group_mode}
 use Rattle.prettyless_laws.proofs.Again.{group_modes, later_modes, modes_after, spelled_in, AppendedDocumentsStay, DocumentsStay}

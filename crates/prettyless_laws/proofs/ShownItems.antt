@@ -9,17 +9,17 @@ use Rattle.prettyless_model.specs.Shows.{Mark, Late, spaced, apart, ended, loose
 use Rattle.prettyless_model.specs.Shows.{shows, texts, AreFixed, HasTexts, Place, at_start, after_text, with_gap, ShowsFrom}
 use Rattle.prettyless_model.specs.declared.choice.ColumnTest.{ColumnTest}
 use Rattle.prettyless_model.specs.declared.choice.NestingTest.{NestingTest}
-use Rattle.prettyless_model.specs.Counted as counted
-use Rattle.prettyless_model.specs.Lines.{line, line_, space}
+use Rattle.prettyless_trees.specs.Counted as counted
+use Rattle.prettyless_trees.specs.Lines.{line, line_, space}
 use Rattle.prettyless_model.specs.Tree.{Tree, Nil, Text, TextWithLen, MultilineText, WeakSpace, HardLine, WeakLine, LineSuffix}
 use Rattle.prettyless_model.specs.Tree.{DedentToRoot, Align, Flatten, BreakOrFlat, Group, Union, PartialUnion, OnColumn, OnNesting}
-use Rattle.prettyless_model.specs.Built.{align, append, append_to, between, dedent_to_root, enclose, flatten, group, nest, nest_by}
-use Rattle.prettyless_model.specs.Built.{softline, softline_}
-use Rattle.prettyless_model.specs.Lists.{change_all_but_last}
+use Rattle.prettyless_trees.specs.Built.{align, append, append_to, between, dedent_to_root, enclose, flatten, group, nest, nest_by}
+use Rattle.prettyless_trees.specs.Built.{softline, softline_}
+use Rattle.prettyless_trees.specs.Lists.{change_all_but_last}
 use Rattle.prettyless_laws.specs.Shown.{text_items, after_gaps, with_gaps, in_lines, TextsShow, SeparatedShow, PunctuatedShow}
 use Rattle.prettyless_laws.specs.Shown.{BracketedShow, MarksStandInGaps}
 use Rattle.prettyless_laws.specs.SpacedItems.{IsSpacedFrom, FixedAreSpaced}
-use Rattle.prettyless_model.specs.Words.{intersperse}
+use Rattle.prettyless_trees.specs.Words.{intersperse}
 
 -- ---- texts
 

@@ -1,11 +1,11 @@
 -- What lists of documents show, where each of the documents shows items.
 use Rattle.std.specs.Prelude.{◌≡◌, ℕ, ℤ, List, [], ◌∷◌, ◌++◌}
 use Rattle.std.specs.List.{AllZip}
-use Rattle.prettyless_model.specs.Counted as counted
+use Rattle.prettyless_trees.specs.Counted as counted
 use Rattle.prettyless_model.specs.Tree.{Tree}
 use Rattle.prettyless_model.specs.Shows.{Item, Shown, apart, loose, shows}
-use Rattle.prettyless_model.specs.Lists.{change_all_but_last, punctuated, bracketed}
-use Rattle.prettyless_model.specs.Words.{intersperse}
+use Rattle.prettyless_trees.specs.Lists.{change_all_but_last, punctuated, bracketed}
+use Rattle.prettyless_trees.specs.Words.{intersperse}
 
 -- a text itself, unless it is empty
 abbrev pub text_items : List ℕ → List Item

@@ -13,9 +13,3 @@ pub mod Rows
 pub mod Spelling
 pub mod Shows
 pub mod Content
-pub mod Lines
-pub mod Breaks
-pub mod Counted
-pub mod Built
-pub mod Words
-pub mod Lists

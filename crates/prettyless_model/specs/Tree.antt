@@ -1,5 +1,5 @@
 -- Documents as trees: the variants of `Doc`, with trees in place of pointers.
-use Rattle.std.specs.Prelude.{ℕ, ℤ, ◌+◌, Bool, true, false, List}
+use Rattle.std.specs.Prelude.{ℕ, ℤ, ◌+◌, List}
 use Rattle.prettyless_model.specs.declared.choice.ColumnTest.{ColumnTest}
 use Rattle.prettyless_model.specs.declared.choice.NestingTest.{NestingTest}
 use Rattle.prettyless_model.specs.declared.choice.ChoiceTest.{ChoiceTest}
@@ -68,11 +68,6 @@ OnColumn test y n = Two (two.Chosen (ask.OnColumn test)) y n
 
 pattern abbrev pub OnNesting : NestingTest → Tree → Tree → Tree
 OnNesting test y n = Two (two.Chosen (ask.OnNesting test)) y n
-
--- nothing
-abbrev pub is_nil : Tree → Bool
-is_nil Nil = true
-is_nil _ = false
 
 -- how many nodes a tree has; a subtree that is in several places counts each time
 abbrev pub size : Tree → ℕ

@@ -4,7 +4,7 @@ use Rattle.prettyless_doc.specs.DocTree.{tree_of, holds_memory}
 use Rattle.std.proofs.lemmas.Bool.{eqb-true}
 use Rattle.prettyless_model.specs.Tree as t
 use Rattle.prettyless_model.specs.Tree.{Tree}
-use Rattle.prettyless_model.specs.Lines.{space}
+use Rattle.prettyless_trees.specs.Lines.{space}
 use Rattle.prettyless_pointers.specs.declared.constants.Constant.{Constant}
 use Rattle.prettyless_pointers.specs.declared.constants.Constant.TheVariants.{Nil, Fail, Space, WeakSpace, HardLine, WeakLine, ExpandParent}
 use Rattle.prettyless_pointers.specs.declared.constants.Constant.TheVariants.{LineOrSpace, LineOrNil, SoftLineOrSpace, SoftLineOrNil}

@@ -3,7 +3,7 @@ use Rattle.std.specs.Prelude.{ℕ, ◌≡◌, Bool, true, false, eqb, List, [], 
 use Rattle.prettyless_model.specs.Tree as t
 use Rattle.prettyless_model.specs.Tree.{Tree}
 use Rattle.prettyless_doc.specs.DocTree.{holds_memory}
-use Rattle.prettyless_model.specs.Lines.{space, line, line_}
+use Rattle.prettyless_trees.specs.Lines.{space, line, line_}
 use Rattle.prettyless_pointers.specs.declared.constants.Constant.{Constant}
 use Rattle.prettyless_pointers.specs.declared.constants.Constant.TheVariants.{Nil, Fail, Space, WeakSpace, HardLine, WeakLine, ExpandParent}
 use Rattle.prettyless_pointers.specs.declared.constants.Constant.TheVariants.{LineOrSpace, LineOrNil, SoftLineOrSpace, SoftLineOrNil}

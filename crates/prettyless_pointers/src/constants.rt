@@ -2,7 +2,7 @@
 ghost use Rattle.std.specs.Prelude.{◌≡◌, false, IfOk, IfErr, IfSome, IsTrue};
 ghost use Rattle.prettyless_doc.specs.BuildErrors.{IsMemory};
 ghost use Rattle.prettyless_doc.specs.DocTree.{tree_of, holds_memory};
-ghost use Rattle.prettyless_model.specs.Lines.{space, line, line_};
+ghost use Rattle.prettyless_trees.specs.Lines.{space, line, line_};
 ghost use Rattle.prettyless_model.specs.Tree.{Nil, HardLine, BreakOrFlat};
 ghost use Rattle.prettyless_pointers.specs.Constants.{IsTable, constant_tree, index_of};
 ghost use Rattle.prettyless_pointers.specs.declared.arena.RefDoc.{out-RefDoc};

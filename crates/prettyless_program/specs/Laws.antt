@@ -1,7 +1,7 @@
 -- Laws of programs: which documents have one, and that no bytes write two.
 use Rattle.std.specs.Prelude.{◌≡◌, ◌<◌, ◌^◌, ℕ, List, [], ◌∷◌, ◌++◌, length, true, ⊤}
 use Rattle.std.specs.Str.{IsUtf8}
-use Rattle.prettyless_model.specs.Breaks.{holds_break}
+use Rattle.prettyless_trees.specs.Breaks.{holds_break}
 use Rattle.prettyless_model.specs.Tree as tree
 use Rattle.prettyless_model.specs.Tree.{Tree}
 use Rattle.prettyless_program.specs.declared.instruction.Leaf.TheVariants as leaf

@@ -4,8 +4,8 @@ use Rattle.std.specs.Prelude.{if◌then◌else◌}
 use Rattle.std.specs.Int.{w32, w64, to_le_bytes, cast_unsigned}
 use Rattle.std.specs.List.{AllByRecursion}
 use Rattle.std.specs.Str.{IsUtf8}
-use Rattle.prettyless_model.specs.Counted as to
-use Rattle.prettyless_model.specs.Lines.{line, line_}
+use Rattle.prettyless_trees.specs.Counted as to
+use Rattle.prettyless_trees.specs.Lines.{line, line_}
 use Rattle.prettyless_model.specs.declared.choice.ColumnTest.TheVariants as by_column
 use Rattle.prettyless_model.specs.declared.choice.NestingTest.TheVariants as by_nesting
 use Rattle.prettyless_model.specs.declared.choice.ChoiceTest.TheVariants as ask

@@ -2,10 +2,10 @@
 use Rattle.std.proofs.Common.{◌≡◌, refl, sym, subst, ◌<◌, arith, ℕ, Bool, true, false, if◌then◌else◌, List, [], ◌∷◌, length, Result, IfOk}
 use Rattle.std.proofs.lemmas.Result.{IfOk-weaker}
 use Rattle.prettyless_model.specs.Metrics.{is_ascii}
-use Rattle.prettyless_model.specs.Counted.{text}
-use Rattle.prettyless_model.specs.Lines.{space}
+use Rattle.prettyless_trees.specs.Counted.{text}
+use Rattle.prettyless_trees.specs.Lines.{space}
 use Rattle.prettyless_model.specs.Tree.{Tree, Text, TextWithLen, LineSuffix}
-use Rattle.prettyless_model.specs.Built.{append, as_line_suffix, enclose, group}
+use Rattle.prettyless_trees.specs.Built.{append, as_line_suffix, enclose, group}
 use Rattle.prettyless_shapes.specs.Shapes.{inside, list}
 use Rattle.prettyless_shapes.specs.declared.lists.ListStyle.{ListStyle}
 

@@ -3,13 +3,13 @@ use Rattle.std.proofs.Common.{◌≡◌, refl, ◌∙◌, ap, subst, ℕ, pos, B
 use Rattle.std.proofs.Common.{append-nil}
 use Rattle.std.specs.List.{AllZip}
 use Rattle.prettyless_model.specs.Shows.{Item, NoneIsLate, Late, spaced, apart, ended, loose, shows}
-use Rattle.prettyless_model.specs.Counted.{text}
-use Rattle.prettyless_model.specs.Lines.{line, line_, space}
+use Rattle.prettyless_trees.specs.Counted.{text}
+use Rattle.prettyless_trees.specs.Lines.{line, line_, space}
 use Rattle.prettyless_model.specs.Tree.{Tree, Nil, HardLine, LineSuffix, BreakOrFlat}
-use Rattle.prettyless_model.specs.Built.{append, enclose, group, nest, softline}
-use Rattle.prettyless_model.specs.Lists.{change_all_but_last, punctuated}
+use Rattle.prettyless_trees.specs.Built.{append, enclose, group, nest, softline}
+use Rattle.prettyless_trees.specs.Lists.{change_all_but_last, punctuated}
 use Rattle.prettyless_laws.specs.Shown.{text_items, with_gaps}
-use Rattle.prettyless_model.specs.Words.{intersperse}
+use Rattle.prettyless_trees.specs.Words.{intersperse}
 use Rattle.prettyless_laws.proofs.ShownItems.{append_shows, enclose_shows, nest_shows, group_shows, line_suffix_shows, flat_alt_shows}
 use Rattle.prettyless_laws.proofs.ShownItems.{if_group_break_shows, text_shows, space_shows, line_shows, line__shows, softline_shows}
 use Rattle.prettyless_laws.proofs.ShownItems.{hard_line_shows, intersperse_shows, punctuated_shows, marks_stand_in_gaps}

@@ -4,10 +4,10 @@ pub use Rattle.prettyless_build.specs.Builds
 pub use Rattle.prettyless_doc.specs.BuildErrors
 pub use Rattle.prettyless_doc.specs.DocTree
 pub use Rattle.prettyless_laws.specs.Shown
-pub use Rattle.prettyless_model.specs.Built
-pub use Rattle.prettyless_model.specs.Counted
-pub use Rattle.prettyless_model.specs.Lines
-pub use Rattle.prettyless_model.specs.Lists
+pub use Rattle.prettyless_trees.specs.Built
+pub use Rattle.prettyless_trees.specs.Counted
+pub use Rattle.prettyless_trees.specs.Lines
+pub use Rattle.prettyless_trees.specs.Lists
 pub use Rattle.prettyless_model.specs.Shows
 pub use Rattle.prettyless_model.specs.Tree
-pub use Rattle.prettyless_model.specs.Words
+pub use Rattle.prettyless_trees.specs.Words

@@ -1,11 +1,11 @@
 -- The trees of shapes.
 use Rattle.std.specs.Prelude.{ℕ, pos, List, [], ◌∷◌, if◌then◌else◌}
-use Rattle.prettyless_model.specs.Counted.{text}
-use Rattle.prettyless_model.specs.Lines.{line, line_, space}
+use Rattle.prettyless_trees.specs.Counted.{text}
+use Rattle.prettyless_trees.specs.Lines.{line, line_, space}
 use Rattle.prettyless_model.specs.Tree.{Tree, Nil, HardLine, LineSuffix, BreakOrFlat}
-use Rattle.prettyless_model.specs.Built.{append, enclose, group, nest, softline}
-use Rattle.prettyless_model.specs.Lists.{punctuated}
-use Rattle.prettyless_model.specs.Words.{intersperse}
+use Rattle.prettyless_trees.specs.Built.{append, enclose, group, nest, softline}
+use Rattle.prettyless_trees.specs.Lists.{punctuated}
+use Rattle.prettyless_trees.specs.Words.{intersperse}
 use Rattle.prettyless_shapes.specs.declared.lists.ListStyle.{ListStyle}
 
 -- two trees with a gap between them

@@ -3,10 +3,10 @@ ghost use Rattle.std.specs.Prelude.{◌≡◌, [], ◌∷◌, IfOk, IfErr, map};
 ghost use Rattle.prettyless_model.specs.Shows.{apart, ended, spaced};
 ghost use Rattle.prettyless_doc.specs.BuildErrors.{IsMemory};
 ghost use Rattle.prettyless_doc.specs.DocTree.{built};
-ghost use Rattle.prettyless_model.specs.Lines.{line, space};
+ghost use Rattle.prettyless_trees.specs.Lines.{line, space};
 ghost use Rattle.prettyless_model.specs.Tree.{HardLine};
-ghost use Rattle.prettyless_model.specs.Built.{append};
-ghost use Rattle.prettyless_model.specs.Words.{intersperse};
+ghost use Rattle.prettyless_trees.specs.Built.{append};
+ghost use Rattle.prettyless_trees.specs.Words.{intersperse};
 ghost use Rattle.prettyless_shapes.specs.Items.{ShowsAll, ShowsBoth, ShowsMore};
 ghost use Rattle.prettyless_shapes.specs.Shapes.{gapped};
 

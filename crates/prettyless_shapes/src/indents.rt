@@ -3,7 +3,7 @@ ghost use Rattle.std.specs.Prelude.{◌≡◌, pos, [], ◌∷◌, IfOk, IfErr};
 ghost use Rattle.prettyless_model.specs.Shows.{apart};
 ghost use Rattle.prettyless_doc.specs.BuildErrors.{IsMemory};
 ghost use Rattle.prettyless_model.specs.Tree.{ExpandParent};
-ghost use Rattle.prettyless_model.specs.Built.{append, group, nest};
+ghost use Rattle.prettyless_trees.specs.Built.{append, group, nest};
 ghost use Rattle.prettyless_shapes.specs.Items.{ShowsBlock, ShowsBoth, ShowsSame};
 ghost use Rattle.prettyless_shapes.specs.Shapes as shapes;
 

@@ -1,7 +1,7 @@
 //! Documents that are made of no other.
 ghost use Rattle.std.specs.Prelude.{◌≡◌, [], IfOk, IfErr};
 ghost use Rattle.prettyless_doc.specs.BuildErrors.{IsMemory};
-ghost use Rattle.prettyless_model.specs.Counted as counted;
+ghost use Rattle.prettyless_trees.specs.Counted as counted;
 ghost use Rattle.prettyless_model.specs.Tree.{Nil};
 ghost use Rattle.prettyless_model.specs.Shows.{shows};
 ghost use Rattle.prettyless_laws.specs.Shown.{text_items};

@@ -1,7 +1,7 @@
 //! Lists of documents between brackets.
 ghost use Rattle.std.specs.Prelude.{◌≡◌, false, IfOk, IfErr, map};
 ghost use Rattle.prettyless_doc.specs.BuildErrors.{IsMemory};
-ghost use Rattle.prettyless_model.specs.Counted as counted;
+ghost use Rattle.prettyless_trees.specs.Counted as counted;
 ghost use Rattle.prettyless_doc.specs.DocTree.{built};
 ghost use Rattle.prettyless_build.specs.Builds.{Builds};
 ghost use Rattle.prettyless_shapes.specs.Items.{ShowsList};

@@ -5,7 +5,7 @@ use Rattle.std.proofs.Math.Nat.{sub-zero}
 use Rattle.std.specs.List.{onto_first, slice_range}
 use Rattle.std.proofs.lemmas.Bool.{lt-ltb}
 use Rattle.prettyless_model.specs.Metrics.{is_break, parts, is_empty, first_of_parts, later_parts}
-use Rattle.prettyless_model.specs.Breaks.{EndsFirstPart}
+use Rattle.prettyless_trees.specs.Breaks.{EndsFirstPart}
 
 EndsFirstPart-tail : (b : ℕ) (s : List ℕ) (n : ℕ) → EndsFirstPart (b ∷ s) (suc n) → EndsFirstPart s n
 EndsFirstPart-tail b s n h = record {

@@ -5,4 +5,4 @@ pub mod Printed
 pub mod Small
 pub mod Source
 pub mod TextBytes
-pub use Rattle.prettyless_model.specs.Breaks
+pub use Rattle.prettyless_trees.specs.Breaks

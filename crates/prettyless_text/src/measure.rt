@@ -2,7 +2,7 @@
 ghost use Rattle.std.specs.Prelude.{◌≡◌, ◌<◌, not, length, take, IfSome};
 ghost use Rattle.std.specs.Option.{option_copied};
 ghost use Rattle.prettyless_model.specs.Metrics as spec;
-ghost use Rattle.prettyless_model.specs.Breaks.{EndsFirstPart, holds_break, parts_left};
+ghost use Rattle.prettyless_trees.specs.Breaks.{EndsFirstPart, holds_break, parts_left};
 
 use prettyless_model::metrics::Metrics;
 use unicode_width::UnicodeWidthStr;

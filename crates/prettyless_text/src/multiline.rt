@@ -2,7 +2,7 @@
 ghost use Rattle.std.specs.Prelude.{◌≡◌, true, false, IfOk, IfErr, IsOk};
 ghost use Rattle.std.specs.Cow.{cow_str_bytes};
 ghost use Rattle.prettyless_model.specs.Metrics.{metrics};
-ghost use Rattle.prettyless_model.specs.Breaks.{holds_break};
+ghost use Rattle.prettyless_trees.specs.Breaks.{holds_break};
 ghost use Rattle.prettyless_text.specs.Cached.{IsCacheOf};
 ghost use Rattle.prettyless_text.specs.Source.{cache_of, source_bytes};
 ghost use Rattle.prettyless_text.specs.TextBytes.{IfLent};

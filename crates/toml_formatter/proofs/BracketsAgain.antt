@@ -2,11 +2,12 @@
 use Rattle.std.proofs.Common.{◌≡◌, refl, sym, ◌∙◌, ap, subst, ℕ, zero, suc, ℤ, pos, Bool, true, false, List, [], ◌∷◌, ◌++◌, append_assoc}
 use Rattle.std.proofs.Common.{if◌then◌else◌}
 use Rattle.prettyless_model.specs.Metrics.{is_ascii}
-use Rattle.prettyless_model.specs.Tree.{Tree, Nil, Text, TextWithLen, HardLine, Append, Group, is_nil}
+use Rattle.prettyless_model.specs.Tree.{Tree, Nil, Text, TextWithLen, HardLine, Append, Group}
+use Rattle.prettyless_trees.specs.Built.{is_nil}
 use Rattle.prettyless_model.specs.declared.mode.Mode.{Mode}
 use Rattle.prettyless_model.specs.declared.mode.Mode.TheVariants.{Break, Flat}
-use Rattle.prettyless_model.specs.Built.{append, group, nest, nest_by}
-use Rattle.prettyless_model.specs.Counted as counted
+use Rattle.prettyless_trees.specs.Built.{append, group, nest, nest_by}
+use Rattle.prettyless_trees.specs.Counted as counted
 use Rattle.toml_formatter.specs.Documents.{lines_with, separated}
 use Rattle.prettyless_laws.specs.Bits.{Bit, end_of_line, word_bits}
 use Rattle.prettyless_laws.proofs.Again.{Again, first_mode, later_modes}

@@ -4,7 +4,8 @@ use Rattle.std.proofs.Common.{inl, inr}
 use Rattle.prettyless_model.specs.Layout.{Entry, Outcome, State, and_then, entry, lay, rest_fits}
 use Rattle.prettyless_model.specs.Levels.{settle}
 use Rattle.prettyless_model.specs.Look.{Answers, GoesOn, Look, look, look_then}
-use Rattle.prettyless_model.specs.Tree.{Tree, ExpandParent, Append, Group, is_nil}
+use Rattle.prettyless_model.specs.Tree.{Tree, ExpandParent, Append, Group}
+use Rattle.prettyless_trees.specs.Built.{is_nil}
 use Rattle.prettyless_model.specs.declared.column.Column.{Column}
 use Rattle.prettyless_model.specs.declared.mode.Mode.{Mode}
 use Rattle.prettyless_model.specs.declared.mode.Mode.TheVariants.{Break, Flat}
@@ -12,10 +13,10 @@ use Rattle.prettyless_model.specs.declared.options.RenderOptions.{RenderOptions}
 use Rattle.prettyless_model.proofs.Looks.{answer-each, look-same, look-then-then}
 use Rattle.prettyless_model.proofs.Outcomes.{then-done}
 use Rattle.prettyless_laws.specs.Parts.{FollowAlike, IsNeverFlat}
-use Rattle.prettyless_model.specs.Built.{append}
+use Rattle.prettyless_trees.specs.Built.{append}
 use Rattle.toml_lexemes.specs.Bytes as byte
 use Rattle.toml_formatter.specs.Documents.{broken_if, separated}
-use Rattle.prettyless_model.specs.Lines.{line, line_}
+use Rattle.prettyless_trees.specs.Lines.{line, line_}
 use Rattle.prettyless_laws.specs.Bits.{Bit, text_of}
 use Rattle.prettyless_laws.proofs.Again.{Again, IsFlatAgain, IsLaidLike, LooksSame, group_modes, modes_after, spelled_in}
 use Rattle.toml_formatter.proofs.AgainLaws.{BrokenListsAreTrailed, FlatBlankLinesGo, FlatListsAreNot, line_bits, optional_comma}

@@ -2,9 +2,9 @@
 use Rattle.std.proofs.Common.{◌≡◌, refl, sym, ◌∙◌, ap, subst, ℕ, pos, Bool, true, false, cond, ◌-◌, ◌&&◌, List, [], ◌∷◌, ◌⊎◌, inl, inr}
 use Rattle.std.proofs.Common.{length, take}
 use Rattle.std.specs.Prelude.{⊤, Option, Some, None, Ok}
-use Rattle.prettyless_model.specs.Built.{append, nest}
+use Rattle.prettyless_trees.specs.Built.{append, nest}
 use Rattle.prettyless_model.specs.Tree.{Nil, BreakOrFlat}
-use Rattle.prettyless_model.specs.Counted as counted
+use Rattle.prettyless_trees.specs.Counted as counted
 use Rattle.toml_lexemes.specs.Bytes as byte
 use Rattle.toml_lexemes.specs.Bytes.{head, is_sign}
 use Rattle.toml_lexemes.specs.Shown.{IsWholeLexeme}

@@ -2,8 +2,8 @@
 use Rattle.std.proofs.Common.{ℕ, zero, suc, ℤ, pos, Bool, true, false, List, [], ◌∷◌, refl}
 use Rattle.std.specs.Prelude.{Option, Some, None, if◌then◌else◌}
 use Rattle.std.specs.List.{list_any}
-use Rattle.prettyless_model.specs.Built.{append, append_to, group, nest, nest_by}
-use Rattle.prettyless_model.specs.Counted as counted
+use Rattle.prettyless_trees.specs.Built.{append, append_to, group, nest, nest_by}
+use Rattle.prettyless_trees.specs.Counted as counted
 use Rattle.prettyless_model.specs.Tree.{Tree, Nil, Text, TextWithLen, HardLine, ExpandParent, BreakOrFlat, Append, Group, Indented}
 use Rattle.prettyless_model.specs.Metrics.{is_ascii}
 use Rattle.prettyless_laws.specs.TotalTrees.{IsTotal}

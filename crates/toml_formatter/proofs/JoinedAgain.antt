@@ -9,7 +9,8 @@ use Rattle.prettyless_model.specs.Layout.{Entry, State, and_then, entry, lay, la
 use Rattle.prettyless_model.specs.Levels.{settle}
 use Rattle.prettyless_model.specs.Look.{look, look_text}
 use Rattle.prettyless_model.specs.Metrics.{is_ascii}
-use Rattle.prettyless_model.specs.Tree.{Tree, Text, Append, is_nil}
+use Rattle.prettyless_model.specs.Tree.{Tree, Text, Append}
+use Rattle.prettyless_trees.specs.Built.{is_nil}
 use Rattle.prettyless_model.specs.declared.column.Column.{Column}
 use Rattle.prettyless_model.specs.declared.mode.Mode.{Mode}
 use Rattle.prettyless_model.specs.declared.mode.Mode.TheVariants.{Break, Flat}
@@ -20,8 +21,8 @@ use Rattle.prettyless_laws.specs.Parts.{FollowAlike, IsNeverFlat}
 use Rattle.prettyless_laws.proofs.Following.{lay_alike, then-same}
 use Rattle.prettyless_laws.proofs.Inline.{lay_inline, look_inline}
 use Rattle.prettyless_laws.proofs.LineEnds.{breaks_read_alike}
-use Rattle.prettyless_model.specs.Built.{append}
-use Rattle.prettyless_model.specs.Counted as counted
+use Rattle.prettyless_trees.specs.Built.{append}
+use Rattle.prettyless_trees.specs.Counted as counted
 use Rattle.toml_formatter.specs.Documents.{broken_if, is_line_feed_byte, lexeme_tree, separated}
 use Rattle.prettyless_laws.specs.Bits.{Bit, word_bits}
 use Rattle.prettyless_laws.proofs.Again.{Again, IsFlatAgain, IsLaidLike, LooksSame}

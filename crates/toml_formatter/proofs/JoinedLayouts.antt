@@ -3,7 +3,7 @@ use Rattle.std.proofs.Common.{◌≡◌, refl, sym, ◌∙◌, ap, subst, ℕ, B
 use Rattle.std.proofs.Common.{inl, inr, Result, Ok}
 use Rattle.std.proofs.lemmas.Bool.{true≢false}
 use Rattle.std.specs.Prelude.{◌⊎◌, Option, Some, None}
-use Rattle.prettyless_model.specs.Built.{append}
+use Rattle.prettyless_trees.specs.Built.{append}
 use Rattle.prettyless_model.specs.Tree.{Tree, Nil}
 use Rattle.toml_lexemes.specs.Bytes.{dot, ends_with_dot, ends_word, head}
 use Rattle.toml_lexemes.specs.Shown.{IsWholeLexeme}

@@ -1,9 +1,9 @@
 -- Documents whose spellings lead the grammar from one place to others.
 use Rattle.std.proofs.Common.{◌≡◌, refl, sym, subst, ℕ, zero, suc, ℤ, pos, Bool, true, false, List, [], ◌∷◌, ◌++◌, inl, inr}
 use Rattle.std.specs.Prelude.{if◌then◌else◌}
-use Rattle.prettyless_model.specs.Built.{append, append_to, group, nest, nest_by}
-use Rattle.prettyless_model.specs.Counted as counted
-use Rattle.prettyless_model.specs.Lines.{line, line_, space}
+use Rattle.prettyless_trees.specs.Built.{append, append_to, group, nest, nest_by}
+use Rattle.prettyless_trees.specs.Counted as counted
+use Rattle.prettyless_trees.specs.Lines.{line, line_, space}
 use Rattle.prettyless_model.specs.Tree.{Tree, Nil, Text, TextWithLen, MultilineText, HardLine, ExpandParent, BreakOrFlat, Append, Group}
 use Rattle.prettyless_model.specs.Metrics.{is_ascii}
 use Rattle.prettyless_model.specs.declared.mode.Mode.{Mode}

@@ -1,8 +1,8 @@
 -- Rows of entries that a layout has, where they are read again.
 use Rattle.std.proofs.Common.{◌≡◌, refl, sym, ◌∙◌, ap, subst, ℕ, Bool, true, false, ◌==◌, ◌&&◌, not, List, [], ◌∷◌, ◌++◌, inl, inr}
 use Rattle.std.specs.Prelude.{◌⊎◌, Option, Some, None}
-use Rattle.prettyless_model.specs.Built.{append}
-use Rattle.prettyless_model.specs.Counted as counted
+use Rattle.prettyless_trees.specs.Built.{append}
+use Rattle.prettyless_trees.specs.Counted as counted
 use Rattle.prettyless_model.specs.Tree.{Tree, Nil, TextWithLen}
 use Rattle.prettyless_model.specs.declared.mode.Mode.{Mode}
 use Rattle.prettyless_model.specs.declared.mode.Mode.TheVariants.{Flat}

@@ -6,9 +6,9 @@ use Rattle.std.proofs.lemmas.Bool.{eqb-true}
 use Rattle.std.proofs.lemmas.List.Elements.{All-head, All-tail}
 use Rattle.std.specs.Prelude.{Option, Some, None, if◌then◌else◌}
 use Rattle.std.specs.List.{list_any}
-use Rattle.prettyless_model.specs.Built.{append, append_to, group, nest, nest_by}
-use Rattle.prettyless_model.specs.Counted as counted
-use Rattle.prettyless_model.specs.Lines.{line, line_, space}
+use Rattle.prettyless_trees.specs.Built.{append, append_to, group, nest, nest_by}
+use Rattle.prettyless_trees.specs.Counted as counted
+use Rattle.prettyless_trees.specs.Lines.{line, line_, space}
 use Rattle.prettyless_model.specs.Tree.{Tree, Nil, Text, TextWithLen, MultilineText, HardLine, ExpandParent, BreakOrFlat, Append, Group}
 use Rattle.prettyless_model.specs.Metrics.{is_ascii}
 use Rattle.prettyless_model.specs.declared.mode.Mode.{Mode}

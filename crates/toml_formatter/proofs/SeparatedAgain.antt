@@ -6,11 +6,11 @@ use Rattle.prettyless_model.specs.Metrics.{is_ascii}
 use Rattle.prettyless_model.specs.Tree.{Tree, Nil, Text, TextWithLen, HardLine, ExpandParent, Group}
 use Rattle.prettyless_model.specs.declared.mode.Mode.{Mode}
 use Rattle.prettyless_model.specs.declared.mode.Mode.TheVariants.{Break, Flat}
-use Rattle.prettyless_model.specs.Built.{append}
+use Rattle.prettyless_trees.specs.Built.{append}
 use Rattle.toml_lexemes.specs.Bytes as byte
-use Rattle.prettyless_model.specs.Counted as counted
+use Rattle.prettyless_trees.specs.Counted as counted
 use Rattle.toml_formatter.specs.Documents.{broken_if, is_line_feed_byte, lexeme_tree, separated}
-use Rattle.prettyless_model.specs.Lines.{line, line_, space}
+use Rattle.prettyless_trees.specs.Lines.{line, line_, space}
 use Rattle.prettyless_laws.specs.Bits.{Bit, end_of_line, text_of, word_bits}
 use Rattle.prettyless_laws.proofs.Again.{Again, first_mode, later_modes, modes_after, spelled_in}
 use Rattle.toml_formatter.proofs.AgainLaws.{SeparatedDocumentsStay, after_gap, edge_bits, gap_bits, line_bits}

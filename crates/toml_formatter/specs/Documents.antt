@@ -2,9 +2,9 @@
 -- part of a key or value, then a comma, then comments. An entry is laid out once it is whole: its comma stands before its comments.
 use Rattle.std.specs.Prelude.{ℕ, pos, Bool, true, false, cond, ◌&&◌, ◌||◌, ◌==◌, List, [], ◌∷◌, Option, Some, None}
 use Rattle.std.specs.List.{list_any}
-use Rattle.prettyless_model.specs.Built.{append, group, nest, softline}
-use Rattle.prettyless_model.specs.Counted as counted
-use Rattle.prettyless_model.specs.Lines.{line, line_, space}
+use Rattle.prettyless_trees.specs.Built.{append, group, nest, softline}
+use Rattle.prettyless_trees.specs.Counted as counted
+use Rattle.prettyless_trees.specs.Lines.{line, line_, space}
 use Rattle.prettyless_model.specs.Tree.{Tree, Nil, TextWithLen, HardLine, ExpandParent, BreakOrFlat}
 use Rattle.toml_lexemes.specs.Bytes as byte
 use Rattle.toml_grammar.specs.Sorts as sort

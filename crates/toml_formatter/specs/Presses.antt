@@ -1,6 +1,6 @@
 -- Statements that are laid out one after another.
 use Rattle.std.specs.Prelude.{◌≡◌, ℕ, Bool, true, false, List, [], ◌++◌}
-use Rattle.prettyless_model.specs.Built.{append}
+use Rattle.prettyless_trees.specs.Built.{append}
 use Rattle.prettyless_model.specs.Tree.{Tree, HardLine}
 use Rattle.prettyless_model.specs.declared.options.RenderOptions.{RenderOptions}
 use Rattle.toml_lexemes.specs.Lexemes.{toml_lexemes_of}

@@ -1,7 +1,7 @@
 //! The layout of statements, one after another: each is laid out as it is read, and its document is dropped.
 ghost use Rattle.std.specs.Prelude.{◌≡◌, ◌++◌, ◌∷◌, ◌≤◌, ℕ, List, length, true, false, IfOk, IfErr, OnOk};
 ghost use Rattle.std.specs.String.{string_bytes};
-ghost use Rattle.prettyless_model.specs.Built.{append};
+ghost use Rattle.prettyless_trees.specs.Built.{append};
 ghost use Rattle.prettyless_model.specs.Layout.{Whole, layout};
 ghost use Rattle.prettyless_pointers.specs.Trees.{ref_tree};
 ghost use Rattle.prettyless_model.specs.declared.options.IndentationPolicy.TheVariants.{Deferred};

@@ -1,9 +1,9 @@
 //! Documents of lexemes, and documents with a gap between them.
 ghost use Rattle.std.specs.Prelude.{◌≡◌, [], ◌∷◌, IfOk};
 ghost use Rattle.std.specs.List.{list_any};
-ghost use Rattle.prettyless_model.specs.Counted as counted;
-ghost use Rattle.prettyless_model.specs.Built.{append, softline};
-ghost use Rattle.prettyless_model.specs.Lines.{line_};
+ghost use Rattle.prettyless_trees.specs.Counted as counted;
+ghost use Rattle.prettyless_trees.specs.Built.{append, softline};
+ghost use Rattle.prettyless_trees.specs.Lines.{line_};
 ghost use Rattle.prettyless_model.specs.Tree.{Nil, BreakOrFlat, TextWithLen};
 ghost use Rattle.prettyless_model.specs.Shows.{Mark, apart, loose, shows, spaced};
 ghost use Rattle.prettyless_shapes.specs.Items.{ShowsBoth, ShowsMore, ShowsSame};

@@ -3,8 +3,8 @@ ghost use Rattle.std.specs.Prelude.{◌≡◌, ◌∷◌, ◌++◌, ◌≤◌, [
 ghost use Rattle.prettyless_pointers.specs.Trees.{ref_tree};
 ghost use Rattle.toml_lexemes.specs.View.{toml_text_of, HasTomlKind};
 ghost use Rattle.toml_grammar.specs.Nesting.{max_brackets};
-ghost use Rattle.prettyless_model.specs.Built.{append};
-ghost use Rattle.prettyless_model.specs.Counted as counted;
+ghost use Rattle.prettyless_trees.specs.Built.{append};
+ghost use Rattle.prettyless_trees.specs.Counted as counted;
 ghost use Rattle.toml_formatter.specs.Depths.{TakesWithin};
 ghost use Rattle.toml_formatter.specs.Documents.{Level, closed_end, new_statement, with_part};
 ghost use Rattle.toml_formatter.specs.Drafts.{ReadsFirst, ReadsOn, ReadsStatement, Stands};

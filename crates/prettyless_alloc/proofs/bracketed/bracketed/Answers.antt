@@ -2,12 +2,12 @@ use Rattle.std.proofs.Common.{rules, ap, sym, ◌∙◌, map, ◌<◌, ◌≡◌
 use Rattle.std.proofs.lemmas.Int.{to_z-of_z}
 use Rattle.std.proofs.lemmas.List.{length-map}
 use Rattle.std.proofs.lemmas.Result.{IfOk-weaker}
-use Rattle.prettyless_model.specs.Counted as counted
+use Rattle.prettyless_trees.specs.Counted as counted
 use Rattle.prettyless_doc.specs.DocTree.{built}
-use Rattle.prettyless_model.specs.Lines.{line, line_}
+use Rattle.prettyless_trees.specs.Lines.{line, line_}
 use Rattle.prettyless_model.specs.Tree.{Tree}
-use Rattle.prettyless_model.specs.Built.{append, group, nest}
-use Rattle.prettyless_model.specs.Words.{intersperse}
+use Rattle.prettyless_trees.specs.Built.{append, group, nest}
+use Rattle.prettyless_trees.specs.Words.{intersperse}
 use Rattle.prettyless_alloc.proofs.Lists.{bracketed_some}
 use Rattle.prettyless_alloc.proofs.bracketed.bracketed.Goals as goal
 

@@ -1,6 +1,6 @@
 use Rattle.std.specs.List.{FoldsTo}
 use Rattle.prettyless_doc.specs.DocTree.{built}
-use Rattle.prettyless_model.specs.Built.{appends}
+use Rattle.prettyless_trees.specs.Built.{appends}
 use Rattle.prettyless_alloc.proofs.concat.append_all.Given as goal
 
 abbrev pub invariant-loop-item : goal.invariant-loop-item

@@ -2,7 +2,7 @@ use Rattle.std.proofs.Common.{rules, refl, ap, sym, ◌∙◌, subst, ◌∷◌,
 use Rattle.std.proofs.lemmas.Result.{IfOk-weaker, IfErr-weaker}
 use Rattle.prettyless_doc.specs.DocTree.{built}
 use Rattle.prettyless_model.specs.Tree.{Tree}
-use Rattle.prettyless_model.specs.Built.{IsNotNil, append}
+use Rattle.prettyless_trees.specs.Built.{IsNotNil, append}
 use Rattle.prettyless_alloc.proofs.Walks.{drains_later, gives_first, gives_later, some_after, some_before}
 use Rattle.prettyless_alloc.proofs.intersperse.append_between.Goals as goal
 

@@ -2,7 +2,7 @@ use Rattle.std.proofs.Common.{rules, ap, ◌∙◌}
 use Rattle.std.proofs.lemmas.Fn.{FoldsTo-push}
 use Rattle.prettyless_model.specs.Tree.{Tree}
 use Rattle.prettyless_doc.specs.DocTree.{built}
-use Rattle.prettyless_model.specs.Built.{append}
+use Rattle.prettyless_trees.specs.Built.{append}
 use Rattle.prettyless_alloc.proofs.intersperse.append_placed.Goals as goal
 
 pub loop-item-preserved : goal.loop-item-preserved

@@ -1,6 +1,6 @@
 use Rattle.std.specs.List.{FoldsTo}
 use Rattle.prettyless_doc.specs.DocTree.{built}
-use Rattle.prettyless_model.specs.Built.{IsNotNil, append}
+use Rattle.prettyless_trees.specs.Built.{IsNotNil, append}
 use Rattle.prettyless_build.specs.Iterated.{appends_after}
 use Rattle.prettyless_alloc.proofs.intersperse.append_placed.Given as goal
 

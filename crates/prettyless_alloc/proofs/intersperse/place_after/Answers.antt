@@ -2,7 +2,7 @@ use Rattle.std.proofs.Common.{rules, ◌∙◌}
 use Rattle.std.proofs.lemmas.Result.{IfOk-weaker}
 use Rattle.prettyless_model.specs.Tree.{Tree}
 use Rattle.prettyless_doc.specs.DocTree.{built}
-use Rattle.prettyless_model.specs.Built.{IsNotNil}
+use Rattle.prettyless_trees.specs.Built.{IsNotNil}
 use Rattle.prettyless_alloc.proofs.Walks.{placed_after, some_from}
 use Rattle.prettyless_alloc.proofs.intersperse.place_after.Goals as goal
 

@@ -3,7 +3,7 @@ use Rattle.std.proofs.lemmas.Result.{IfOk-weaker, IfErr-weaker}
 use Rattle.std.specs.List.{FoldsTo}
 use Rattle.prettyless_doc.specs.DocTree.{built}
 use Rattle.prettyless_model.specs.Tree.{Tree}
-use Rattle.prettyless_model.specs.Built.{IsNotNil}
+use Rattle.prettyless_trees.specs.Built.{IsNotNil}
 use Rattle.prettyless_build.specs.Iterated.{appends_after}
 use Rattle.prettyless_alloc.proofs.Walks.{nil_from, between_nothing, nothing_between, some_from}
 use Rattle.prettyless_alloc.proofs.intersperse.with_gaps.Goals as goal

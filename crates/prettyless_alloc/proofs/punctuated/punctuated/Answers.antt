@@ -1,7 +1,7 @@
 use Rattle.std.proofs.Common.{ap, ◌∙◌, map}
 use Rattle.prettyless_doc.specs.DocTree.{built}
 use Rattle.prettyless_model.specs.Tree.{Tree}
-use Rattle.prettyless_model.specs.Built.{append}
+use Rattle.prettyless_trees.specs.Built.{append}
 use Rattle.prettyless_alloc.proofs.Lists.{marked_before_last}
 use Rattle.prettyless_alloc.proofs.punctuated.punctuated.Goals as goal
 

@@ -1,5 +1,5 @@
 use Rattle.std.proofs.Common.{◌≡◌, map}
-use Rattle.prettyless_model.specs.Built.{append}
+use Rattle.prettyless_trees.specs.Built.{append}
 use Rattle.prettyless_alloc.proofs.punctuated.with_marks.Given as goal
 
 -- the punctuation after each document that came

@@ -1,7 +1,7 @@
 use Rattle.std.proofs.Common.{◌≡◌, map}
 use Rattle.std.specs.List.{fold}
 use Rattle.prettyless_doc.specs.DocTree.{built}
-use Rattle.prettyless_model.specs.Built.{append}
+use Rattle.prettyless_trees.specs.Built.{append}
 use Rattle.prettyless_alloc.proofs.separate.separate.Given as goal
 
 -- the first document, and after it the gap and a document for each that came

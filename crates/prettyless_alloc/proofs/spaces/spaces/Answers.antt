@@ -2,7 +2,7 @@ use Rattle.std.proofs.Common.{rules, subst, arith}
 use Rattle.std.proofs.lemmas.Result.{IfErr-weaker}
 use Rattle.prettyless_doc.specs.BuildErrors.{IsMemory}
 use Rattle.prettyless_doc.specs.DocTree.{built}
-use Rattle.prettyless_model.specs.Built.{IsNotNil}
+use Rattle.prettyless_trees.specs.Built.{IsNotNil}
 use Rattle.prettyless_alloc.proofs.Gaps.{hundreds_of_some, more_than_hundred}
 use Rattle.prettyless_alloc.proofs.spaces.spaces.Goals as goal
 

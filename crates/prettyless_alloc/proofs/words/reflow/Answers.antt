@@ -5,9 +5,9 @@ use Rattle.std.proofs.lemmas.Str.{chars-encodes}
 use Rattle.std.specs.Fn.{AlwaysReturns}
 use Rattle.std.specs.Str.{chars, encode_utf8_all}
 use Rattle.std.specs.Str.Iter.{split_text, split_has_more}
-use Rattle.prettyless_model.specs.Counted as counted
-use Rattle.prettyless_model.specs.Built.{softline}
-use Rattle.prettyless_model.specs.Words.{cut_at_whitespace, intersperse}
+use Rattle.prettyless_trees.specs.Counted as counted
+use Rattle.prettyless_trees.specs.Built.{softline}
+use Rattle.prettyless_trees.specs.Words.{cut_at_whitespace, intersperse}
 use Rattle.prettyless_alloc.proofs.Pieces.{pieces_come, pieces_interspersed}
 use Rattle.prettyless_alloc.proofs.words.reflow.Goals as goal
 

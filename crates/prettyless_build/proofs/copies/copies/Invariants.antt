@@ -1,6 +1,6 @@
 use Rattle.std.proofs.Common.{◌≡◌}
 use Rattle.prettyless_doc.specs.DocTree.{built}
-use Rattle.prettyless_model.specs.Built.{chain}
+use Rattle.prettyless_trees.specs.Built.{chain}
 use Rattle.prettyless_build.proofs.copies.copies.Given as goal
 
 abbrev pub invariant-loop : goal.invariant-loop

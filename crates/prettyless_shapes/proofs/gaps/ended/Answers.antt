@@ -1,7 +1,7 @@
 use Rattle.std.proofs.Common.{[], ◌∷◌, rules}
 use Rattle.prettyless_model.specs.Shows.{ended}
 use Rattle.prettyless_model.specs.Tree.{HardLine}
-use Rattle.prettyless_model.specs.Built.{append}
+use Rattle.prettyless_trees.specs.Built.{append}
 use Rattle.prettyless_laws.proofs.ShownItems.{hard_line_shows}
 use Rattle.prettyless_shapes.specs.Items.{ShowsMore}
 use Rattle.prettyless_shapes.proofs.Made.{of_made}

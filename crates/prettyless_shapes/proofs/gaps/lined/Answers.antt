@@ -1,6 +1,6 @@
 use Rattle.std.proofs.Common.{[], ◌∷◌, rules}
 use Rattle.prettyless_model.specs.Shows.{apart}
-use Rattle.prettyless_model.specs.Lines.{line}
+use Rattle.prettyless_trees.specs.Lines.{line}
 use Rattle.prettyless_laws.proofs.ShownItems.{line_shows}
 use Rattle.prettyless_shapes.specs.Items.{ShowsBoth}
 use Rattle.prettyless_shapes.specs.Shapes.{gapped}

@@ -1,6 +1,6 @@
 use Rattle.std.proofs.Common.{[], ◌∷◌, rules}
 use Rattle.prettyless_model.specs.Shows.{spaced}
-use Rattle.prettyless_model.specs.Lines.{space}
+use Rattle.prettyless_trees.specs.Lines.{space}
 use Rattle.prettyless_laws.proofs.ShownItems.{space_shows}
 use Rattle.prettyless_shapes.specs.Items.{ShowsBoth}
 use Rattle.prettyless_shapes.specs.Shapes.{gapped}

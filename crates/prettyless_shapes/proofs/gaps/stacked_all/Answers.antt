@@ -1,7 +1,7 @@
 use Rattle.std.proofs.Common.{[], ◌∷◌, map, rules}
 use Rattle.prettyless_model.specs.Shows.{ended}
 use Rattle.prettyless_model.specs.Tree.{HardLine}
-use Rattle.prettyless_model.specs.Words.{intersperse}
+use Rattle.prettyless_trees.specs.Words.{intersperse}
 use Rattle.prettyless_shapes.specs.Items.{ShowsAll}
 use Rattle.prettyless_shapes.proofs.Made.{of_made}
 use Rattle.prettyless_shapes.proofs.ShapesShow.{stacked_all_shows}

@@ -1,5 +1,5 @@
 use Rattle.std.proofs.Common.{rules}
-use Rattle.prettyless_model.specs.Built.{group}
+use Rattle.prettyless_trees.specs.Built.{group}
 use Rattle.prettyless_shapes.specs.Items.{ShowsSame}
 use Rattle.prettyless_shapes.proofs.Made.{of_made}
 use Rattle.prettyless_shapes.proofs.ShapesShow.{group_shows_same}

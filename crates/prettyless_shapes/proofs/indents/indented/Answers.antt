@@ -1,5 +1,5 @@
 use Rattle.std.proofs.Common.{pos, rules}
-use Rattle.prettyless_model.specs.Built.{nest}
+use Rattle.prettyless_trees.specs.Built.{nest}
 use Rattle.prettyless_shapes.specs.Items.{ShowsSame}
 use Rattle.prettyless_shapes.proofs.Made.{of_made}
 use Rattle.prettyless_shapes.proofs.ShapesShow.{nest_shows_same}

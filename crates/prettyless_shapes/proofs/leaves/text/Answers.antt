@@ -1,6 +1,6 @@
 use Rattle.std.proofs.Common.{rules}
 use Rattle.prettyless_model.specs.Shows.{shows}
-use Rattle.prettyless_model.specs.Counted as counted
+use Rattle.prettyless_trees.specs.Counted as counted
 use Rattle.prettyless_model.specs.Tree.{Tree}
 use Rattle.prettyless_laws.specs.Shown.{text_items}
 use Rattle.prettyless_laws.proofs.ShownItems.{text_shows}

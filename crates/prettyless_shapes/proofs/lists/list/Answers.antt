@@ -1,9 +1,9 @@
 use Rattle.std.proofs.Common.{◌≡◌, refl, sym, ◌∙◌, ap, ◌<◌, arith, length, map}
 use Rattle.std.proofs.lemmas.List.{length-map}
 use Rattle.std.proofs.lemmas.Result.{IfOk-weaker}
-use Rattle.prettyless_model.specs.Counted.{text}
+use Rattle.prettyless_trees.specs.Counted.{text}
 use Rattle.prettyless_doc.specs.DocTree.{built}
-use Rattle.prettyless_model.specs.Built.{enclose, group}
+use Rattle.prettyless_trees.specs.Built.{enclose, group}
 use Rattle.prettyless_shapes.specs.Items.{ShowsList}
 use Rattle.prettyless_shapes.specs.Shapes.{inside, list}
 use Rattle.prettyless_shapes.proofs.Made.{of_made, list_some}

@@ -1,6 +1,6 @@
 use Rattle.std.proofs.Common.{◌∙◌, ap, sym}
 use Rattle.std.specs.Option.{option_copied}
-use Rattle.prettyless_model.specs.Breaks.{parts_left}
+use Rattle.prettyless_trees.specs.Breaks.{parts_left}
 use Rattle.prettyless_text.proofs.Measured.{Splits, measured, measured-first, measured-later}
 use Rattle.prettyless_text.proofs.measure.measure.Goals as goal
 

@@ -1,7 +1,7 @@
 use Rattle.std.proofs.Common.{◌≡◌}
 use Rattle.std.specs.Option.{option_copied}
 use Rattle.prettyless_model.specs.Metrics as spec
-use Rattle.prettyless_model.specs.Breaks.{parts_left}
+use Rattle.prettyless_trees.specs.Breaks.{parts_left}
 use Rattle.prettyless_text.proofs.Measured.{measured, bytes_left}
 use Rattle.prettyless_text.proofs.measure.measure.Given as goal
 

@@ -1,6 +1,6 @@
 use Rattle.std.proofs.Common.{◌≡◌, subst, sym, ◌∙◌, ap, true, Bool, ◌∷◌, pos}
-use Rattle.prettyless_model.specs.Built.{append, group, nest}
-use Rattle.prettyless_model.specs.Counted.{text}
+use Rattle.prettyless_trees.specs.Built.{append, group, nest}
+use Rattle.prettyless_trees.specs.Counted.{text}
 use Rattle.prettyless_pointers.specs.Trees.{ref_tree}
 use Rattle.toml_lexemes.specs.View.{toml_text_of}
 use Rattle.toml_formatter.specs.Documents.{closed_end, indent_in, separated}

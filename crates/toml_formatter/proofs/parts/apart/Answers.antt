@@ -3,8 +3,8 @@ use Rattle.std.proofs.lemmas.Result.{IfOk-weaker}
 use Rattle.prettyless_model.specs.Tree.{Tree, HardLine}
 use Rattle.prettyless_model.specs.Shows.{Item, apart, loose, ended, shows, spaced}
 use Rattle.prettyless_shapes.specs.Items.{ShowsBoth, ShowsMore}
-use Rattle.prettyless_model.specs.Built.{append}
-use Rattle.prettyless_model.specs.Lines.{line}
+use Rattle.prettyless_trees.specs.Built.{append}
+use Rattle.prettyless_trees.specs.Lines.{line}
 use Rattle.toml_formatter.proofs.parts.apart.Goals as goal
 
 -- a document with a gap at its end, and another one after one more gap

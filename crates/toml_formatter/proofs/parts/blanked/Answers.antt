@@ -1,6 +1,6 @@
 use Rattle.std.proofs.Common.{◌∙◌, ap, [], ◌∷◌}
 use Rattle.std.proofs.lemmas.Result.{IfOk-weaker}
-use Rattle.prettyless_model.specs.Built.{append}
+use Rattle.prettyless_trees.specs.Built.{append}
 use Rattle.prettyless_model.specs.Tree.{TextWithLen}
 use Rattle.prettyless_laws.proofs.ShownItems.{space_shows}
 use Rattle.prettyless_model.specs.Shows.{spaced}

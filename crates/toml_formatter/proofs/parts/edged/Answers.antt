@@ -1,7 +1,7 @@
 use Rattle.std.proofs.Common.{[], ◌∷◌, rules}
 use Rattle.prettyless_model.specs.Shows.{loose}
-use Rattle.prettyless_model.specs.Built.{append}
-use Rattle.prettyless_model.specs.Lines.{line_}
+use Rattle.prettyless_trees.specs.Built.{append}
+use Rattle.prettyless_trees.specs.Lines.{line_}
 use Rattle.prettyless_laws.proofs.ShownItems.{line__shows}
 use Rattle.prettyless_shapes.specs.Items.{ShowsMore}
 use Rattle.prettyless_shapes.proofs.Made.{of_made}

@@ -1,6 +1,6 @@
 use Rattle.std.proofs.Common.{[], ◌∷◌, rules}
 use Rattle.prettyless_model.specs.Shows.{apart}
-use Rattle.prettyless_model.specs.Built.{append, softline}
+use Rattle.prettyless_trees.specs.Built.{append, softline}
 use Rattle.prettyless_laws.proofs.ShownItems.{softline_shows}
 use Rattle.prettyless_shapes.specs.Items.{ShowsMore}
 use Rattle.prettyless_shapes.proofs.Made.{of_made}

@@ -1,7 +1,7 @@
 use Rattle.std.proofs.Common.{[], ◌∷◌, rules}
 use Rattle.prettyless_model.specs.Shows.{Mark}
-use Rattle.prettyless_model.specs.Built.{append}
-use Rattle.prettyless_model.specs.Counted.{text}
+use Rattle.prettyless_trees.specs.Built.{append}
+use Rattle.prettyless_trees.specs.Counted.{text}
 use Rattle.prettyless_model.specs.Tree.{Nil, BreakOrFlat}
 use Rattle.prettyless_laws.proofs.ShownItems.{if_group_break_shows, text_shows}
 use Rattle.prettyless_shapes.specs.Items.{ShowsMore}

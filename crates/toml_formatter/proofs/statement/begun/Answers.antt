@@ -1,5 +1,5 @@
 use Rattle.std.proofs.Common.{◌≡◌, refl, sym, ◌∙◌, ap, subst, Bool, true, false, ◌∷◌, [], List, ℕ, inl, inr}
-use Rattle.prettyless_model.specs.Counted.{text}
+use Rattle.prettyless_trees.specs.Counted.{text}
 use Rattle.prettyless_pointers.specs.Trees.{ref_tree}
 use Rattle.toml_lexemes.specs.Bytes.{comma, ends_with_dot}
 use Rattle.toml_lexemes.specs.Statements.{trimmed}

@@ -4,7 +4,7 @@ use Rattle.std.specs.List.{FoldsTo}
 use Rattle.std.proofs.lemmas.Fn.{FoldsTo-push}
 use Rattle.std.proofs.lemmas.List.{take_more}
 use Rattle.prettyless_doc.specs.DocTree.{built}
-use Rattle.prettyless_model.specs.Built.{appends}
+use Rattle.prettyless_trees.specs.Built.{appends}
 use Rattle.prettyless_build.proofs.arrays.ArrayPretty.pretty.Goals as goal
 
 more : {P A : Type 0} (R : P → A → P → Type 0) (p q u : P) (xs : List A) (i : ℕ) (d : A) → i < length xs → FoldsTo R p (take i xs) q

@@ -2,7 +2,7 @@ use Rattle.std.proofs.Common.{take}
 use Rattle.std.specs.List.{FoldsTo}
 use Rattle.prettyless_model.specs.Tree.{Nil}
 use Rattle.prettyless_doc.specs.DocTree.{built}
-use Rattle.prettyless_model.specs.Built.{appends}
+use Rattle.prettyless_trees.specs.Built.{appends}
 use Rattle.prettyless_build.proofs.arrays.ArrayPretty.pretty.Given as goal
 
 abbrev pub invariant-loop-item : goal.invariant-loop-item

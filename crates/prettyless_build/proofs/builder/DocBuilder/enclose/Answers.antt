@@ -3,7 +3,7 @@ use Rattle.std.proofs.lemmas.Result.{IfOk-weaker, IfErr-weaker}
 use Rattle.prettyless_doc.specs.BuildErrors.{IsMemory}
 use Rattle.prettyless_doc.specs.DocTree.{built}
 use Rattle.prettyless_model.specs.Tree.{Tree}
-use Rattle.prettyless_model.specs.Built.{IsAppended}
+use Rattle.prettyless_trees.specs.Built.{IsAppended}
 use Rattle.prettyless_build.proofs.Appended.{enclosed, made_something}
 use Rattle.prettyless_build.proofs.builder.DocBuilder.enclose.Goals as goal
 

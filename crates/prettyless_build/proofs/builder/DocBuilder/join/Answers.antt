@@ -3,7 +3,7 @@ use Rattle.std.proofs.lemmas.Result.{IfErr-weaker}
 use Rattle.prettyless_doc.specs.BuildErrors.{IsMemory}
 use Rattle.prettyless_doc.specs.DocTree.{built}
 use Rattle.prettyless_model.specs.Tree.{Tree, Append}
-use Rattle.prettyless_model.specs.Built.{IsNotNil}
+use Rattle.prettyless_trees.specs.Built.{IsNotNil}
 use Rattle.prettyless_build.proofs.Appended.{nothing, something, after_nothing, before_nothing, both_something}
 use Rattle.prettyless_build.proofs.builder.DocBuilder.join.Goals as goal
 

@@ -1,5 +1,5 @@
 use Rattle.std.proofs.Common.{sym, subst}
-use Rattle.prettyless_model.specs.Built.{append}
+use Rattle.prettyless_trees.specs.Built.{append}
 use Rattle.prettyless_model.specs.Tree.{Tree}
 use Rattle.prettyless_pointers.specs.Trees.{ref_tree}
 use Rattle.toml_formatter.specs.Presses.{AddsLines}

@@ -1,8 +1,13 @@
 -- The trees that building makes of the trees that it is given, and when it gives one back as it is.
 use Rattle.std.specs.Prelude.{◌≡◌, ℕ, ℤ, pos, zero, suc, ◌/◌, ◌%◌, ◌⊎◌, [], ◌∷◌, replicate, Bool, true, false}
 use Rattle.prettyless_model.specs.Tree.{Tree, Nil, Fail, Text, TextWithLen, MultilineText, HardLine, Append, LineSuffix, Nest, DedentToRoot}
-use Rattle.prettyless_model.specs.Tree.{Align, Flatten, Group, is_nil}
-use Rattle.prettyless_model.specs.Lines.{line, line_}
+use Rattle.prettyless_model.specs.Tree.{Align, Flatten, Group}
+use Rattle.prettyless_trees.specs.Lines.{line, line_}
+
+-- nothing
+abbrev pub is_nil : Tree → Bool
+is_nil Nil = true
+is_nil _ = false
 
 -- something
 abbrev pub IsNotNil : Tree → Type 0

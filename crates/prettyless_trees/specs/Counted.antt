@@ -3,7 +3,7 @@ use Rattle.std.specs.Prelude.{◌≡◌, ℕ, List, [], ◌∷◌, false, Option
 use Rattle.unicode_width.specs.Width.{str_width}
 use Rattle.prettyless_model.specs.Metrics.{is_ascii}
 use Rattle.prettyless_model.specs.Tree.{Tree, Nil, Text, TextWithLen, MultilineText}
-use Rattle.prettyless_model.specs.Breaks.{holds_break}
+use Rattle.prettyless_trees.specs.Breaks.{holds_break}
 
 -- `as_string`: counted by its bytes if it is ASCII, also if it is empty, and else by its display width
 abbrev pub as_string : List ℕ → Tree

@@ -1,9 +1,9 @@
 -- Lists of documents: punctuation after them, and brackets around them.
 use Rattle.std.specs.Prelude.{ℤ, List, [], ◌∷◌}
 use Rattle.prettyless_model.specs.Tree.{Tree}
-use Rattle.prettyless_model.specs.Lines.{line, line_}
-use Rattle.prettyless_model.specs.Built.{append, enclose, group, nest}
-use Rattle.prettyless_model.specs.Words.{intersperse}
+use Rattle.prettyless_trees.specs.Lines.{line, line_}
+use Rattle.prettyless_trees.specs.Built.{append, enclose, group, nest}
+use Rattle.prettyless_trees.specs.Words.{intersperse}
 
 -- a list with each item but the last changed
 abbrev pub change_all_but_last : {A : Type 0} → (A → A) → List A → List A

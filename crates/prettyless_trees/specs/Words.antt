@@ -3,9 +3,9 @@ use Rattle.std.specs.Prelude.{ℕ, List, [], ◌∷◌, map, if◌then◌else◌
 use Rattle.std.specs.Char.{is_whitespace}
 use Rattle.std.specs.List.{fold}
 use Rattle.std.specs.Str.{chars, encode_utf8_all}
-use Rattle.prettyless_model.specs.Counted as counted
+use Rattle.prettyless_trees.specs.Counted as counted
 use Rattle.prettyless_model.specs.Tree.{Tree, Nil}
-use Rattle.prettyless_model.specs.Built.{append, softline}
+use Rattle.prettyless_trees.specs.Built.{append, softline}
 
 -- the pieces with one character more in front of the first
 abbrev pub onto_first : ℕ → List (List ℕ) → List (List ℕ)
