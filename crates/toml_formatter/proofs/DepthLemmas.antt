@@ -13,8 +13,8 @@ use Rattle.toml_grammar.specs.Nesting.{depth_after, max_brackets, nest_too_deep}
 use Rattle.toml_grammar.proofs.Depths.{depth_step, comment_depth, string_depth, word_depth}
 use Rattle.toml_formatter.specs.Depths.{TakesWithin}
 use Rattle.toml_formatter.specs.Errors.{IsFormatMemory, IsRefusalWithin, IsRefusalOf}
-use Rattle.toml_formatter.specs.Kinds.{is_closing, is_opening, IsPart}
-use Rattle.toml_formatter.specs.Lexing.{ClosesNext}
+use Rattle.toml_documents.specs.Kinds.{is_closing, is_opening, IsPart}
+use Rattle.toml_documents.specs.Lexing.{ClosesNext}
 use Rattle.toml_formatter.specs.declared.error.FormatError.{FormatError}
 use Rattle.toml_formatter.specs.declared.error.FormatError.TheVariants.{NotToml, TooDeep, Memory}
 

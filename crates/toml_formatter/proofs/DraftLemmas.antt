@@ -1,14 +1,13 @@
 -- What the code's lines and documents are to the definition, step by step.
-use Rattle.std.proofs.Common.{◌≡◌, refl, sym, ◌∙◌, ap, subst, inl, inr, Bor, ◌⊎◌, ℕ, Bool, true, false, cond}
+use Rattle.std.proofs.Common.{◌≡◌, refl, sym, ◌∙◌, ap, subst, inl, inr, ◌⊎◌, ℕ, Bool, true, false}
 use Rattle.std.proofs.Common.{◌&&◌, ◌||◌, ◌==◌, List, []}
 use Rattle.std.proofs.Common.{◌∷◌}
-use Rattle.std.proofs.lemmas.Bool.{or_parts}
 use Rattle.prettyless_trees.specs.Built.{append}
 use Rattle.prettyless_trees.specs.Counted as counted
 use Rattle.prettyless_model.specs.Tree.{Tree, Nil}
 use Rattle.prettyless_pointers.specs.Trees.{ref_tree}
 use Rattle.prettyless_pointers.specs.declared.arena.RefDoc.{RefDoc}
-use Rattle.toml_lexemes.specs.Bytes.{comma, dot, hash, head, is_sign, is_blank, is_quote, ends_word, ends_with_dot, line_feed}
+use Rattle.toml_lexemes.specs.Bytes.{comma, dot, hash, head, line_feed}
 use Rattle.toml_lexemes.specs.View.{toml_text_of, HasTomlKind}
 use Rattle.toml_lexemes.specs.declared.lexeme.Lexeme.{Lexeme}
 use Rattle.toml_lexemes.specs.declared.lexeme.Lexeme.TheVariants as lexeme
@@ -16,90 +15,28 @@ use Rattle.toml_grammar.specs.Sorts as sort
 use Rattle.toml_grammar.specs.Sorts.{Sort, sort_of}
 use Rattle.toml_grammar.proofs.Allowed.{sort_comment, sort_string}
 use Rattle.toml_lexemes.specs.Statements.{trimmed}
-use Rattle.toml_formatter.specs.Documents.{end_after_comma, after_comments, after_rest, closed_end, comma_kept, document_from, Draft, End}
-use Rattle.toml_formatter.specs.Documents.{ends_item}
-use Rattle.toml_formatter.specs.Documents.{entry_with_comma, is_array, is_some, Level, level_end, levels_with, lexeme_tree, list_tree}
-use Rattle.toml_formatter.specs.Documents.{new_level, new_statement, part_end, Commented, comment_tree, comments_tree, separated}
-use Rattle.toml_formatter.specs.Documents.{trailed_end}
-use Rattle.toml_formatter.specs.Documents.{draft_with, unclosed_tree, level_with_comma, with_line_end, with_part, with_comment}
-use Rattle.toml_formatter.specs.Documents.{draft_with_statement}
+use Rattle.toml_documents.specs.Documents.{end_after_comma, after_comments, after_rest, closed_end, comma_kept, document_from, Draft, End}
+use Rattle.toml_documents.specs.Documents.{ends_item, entry_with_comma, is_array, is_some, Level, level_end, levels_with, lexeme_tree}
+use Rattle.toml_documents.specs.Documents.{list_tree, new_level, new_statement, part_end, Commented, comment_tree, comments_tree, separated}
+use Rattle.toml_documents.specs.Documents.{trailed_end, draft_with, unclosed_tree, level_with_comma, with_line_end, with_part, with_comment}
+use Rattle.toml_documents.specs.Documents.{draft_with_statement}
 use Rattle.toml_formatter.specs.Drafts.{AreAround, line_end, ReadsFirst, ReadsOn, ReadsPart, ReadsStatement, settled_end, Stands}
-use Rattle.toml_formatter.specs.Gaps.{gap_before_part, gap_before_text, gap_before_comma, gap_before_comment}
-use Rattle.toml_formatter.specs.Kinds.{is_closing, is_opening, IsPart, last_after, last_after_sort, last_after_text, sort_for}
-use Rattle.toml_formatter.specs.Numbers.{opened_kind}
-use Rattle.toml_formatter.specs.Lexing.{ClosesNext}
-use Rattle.toml_formatter.specs.Lines.{begun, may_hold}
-use Rattle.toml_formatter.specs.declared.gaps.Gap.{Gap}
-use Rattle.toml_formatter.specs.declared.kind.Kind.{Kind}
-use Rattle.toml_formatter.specs.declared.kind.Kind.TheVariants.{Statement}
-use Rattle.toml_formatter.specs.declared.kind.Last.{Last}
-use Rattle.toml_formatter.specs.declared.kind.Last.TheVariants as last
+use Rattle.toml_documents.specs.Gaps.{gap_before_part, gap_before_text, gap_before_comma, gap_before_comment, may_hold}
+use Rattle.toml_documents.specs.Kinds.{is_closing, is_opening, IsPart, last_after, last_after_text, sort_for}
+use Rattle.toml_documents.specs.Numbers.{opened_kind}
+use Rattle.toml_documents.specs.Lexing.{ClosesNext}
+use Rattle.toml_formatter.specs.Lines.{begun}
+use Rattle.toml_documents.specs.declared.gaps.Gap.{Gap}
+use Rattle.toml_documents.specs.declared.kind.Kind.{Kind}
+use Rattle.toml_documents.specs.declared.kind.Kind.TheVariants.{Statement}
+use Rattle.toml_documents.specs.declared.kind.Last.{Last}
+use Rattle.toml_documents.specs.declared.kind.Last.TheVariants as last
+use Rattle.toml_documents.proofs.LexemeKinds.{sort_known, part_last, sort_word}
 use Rattle.toml_formatter.specs.declared.line.Line.{Line}
-use Rattle.toml_formatter.specs.declared.style.Style.{Style}
+use Rattle.toml_documents.specs.declared.style.Style.{Style}
 
 clash : {b : Bool} → b ≡ true → b ≡ false → ⊥
 clash p q = cc
-
--- ---- lexemes
-
-sort_word : (s : List ℕ) → ends_word (head s) ≡ false → sort_of s ≡ sort.word
-sort_word [] e = absurd (cc)
-sort_word (x ∷ xs) e =
-    let a = or_parts (is_sign x || is_blank x || is_quote x || (x == 10)) (x == 35) e in
-    let b = or_parts (is_sign x || is_blank x || is_quote x) (x == 10) a.0 in
-    let c = or_parts (is_sign x || is_blank x) (is_quote x) b.0 in
-    let d = or_parts (is_sign x) (is_blank x) c.0 in
-    let f = or_parts ((x == 91) || (x == 93) || (x == 123) || (x == 125) || (x == 44)) (x == 61) d.0 in
-    let g = or_parts ((x == 91) || (x == 93) || (x == 123) || (x == 125)) (x == 44) f.0 in
-    let h = or_parts ((x == 91) || (x == 93) || (x == 123)) (x == 125) g.0 in
-    let k = or_parts ((x == 91) || (x == 93)) (x == 123) h.0 in
-    let l = or_parts (x == 91) (x == 93) k.0 in
-    λ j. cond (l.0 j) sort.open_array (cond (l.1 j) sort.close_array (cond (k.1 j) sort.open_table
-    (cond (h.1 j) sort.close_table (cond (g.1 j) sort.comma (cond (f.1 j) sort.equals (cond (b.1 j) sort.line_end
-    (cond (a.1 j) sort.comment (cond (c.1 j) sort.string sort.word))))))))
-
--- the sort that a lexeme has by its first byte
-pub sort_known : (x : Lexeme) → HasTomlKind x → sort_of (toml_text_of x) ≡ sort_for x
-sort_known lexeme.OpenArray named = refl
-sort_known lexeme.CloseArray named = refl
-sort_known lexeme.OpenTable named = refl
-sort_known lexeme.CloseTable named = refl
-sort_known lexeme.Comma named = refl
-sort_known lexeme.Equals named = refl
-sort_known lexeme.LineEnd named = refl
-sort_known (lexeme.Comment s) named = sort_comment s.now named
-sort_known (lexeme.String s) named = sort_string s.now named
-sort_known (lexeme.Word s) named = sort_word s.now named
-
-last_known : (x : Lexeme) → IsPart x → last_after x ≡ last_after_sort (sort_for x) (ends_with_dot (toml_text_of x))
-last_known lexeme.OpenArray part = refl
-last_known lexeme.CloseArray part = absurd part
-last_known lexeme.OpenTable part = refl
-last_known lexeme.CloseTable part = absurd part
-last_known lexeme.Comma part = absurd part
-last_known lexeme.Equals part = refl
-last_known lexeme.LineEnd part = absurd part
-last_known (lexeme.Comment s) part = absurd part
-last_known (lexeme.String s) part = refl
-last_known (lexeme.Word s) part = refl
-
-pub part_last : (x : Lexeme) → HasTomlKind x → IsPart x → last_after x ≡ last_after_text (toml_text_of x)
-part_last x named part =
-    last_known x part ∙ ap (λ (k : Sort). last_after_sort k (ends_with_dot (toml_text_of x))) (sym (sort_known x named))
-
--- what closes no list and is no comma, comment or line end is a part
-pub list_part : (x : Lexeme) → is_closing x ≡ false → (x ≡ lexeme.LineEnd → ⊥) → (x ≡ lexeme.Comma → ⊥)
-    → ((r : Bor (List ℕ)) → x ≡ lexeme.Comment r → ⊥) → IsPart x
-list_part lexeme.OpenArray e n p q = tt
-list_part lexeme.OpenTable e n p q = tt
-list_part lexeme.Equals e n p q = tt
-list_part (lexeme.String s) e n p q = tt
-list_part (lexeme.Word s) e n p q = tt
-list_part lexeme.CloseArray e n p q = absurd (cc)
-list_part lexeme.CloseTable e n p q = absurd (cc)
-list_part lexeme.Comma e n p q = absurd (p refl)
-list_part lexeme.LineEnd e n p q = absurd (n refl)
-list_part (lexeme.Comment s) e n p q = absurd (q s refl)
 
 -- ---- what waits
 

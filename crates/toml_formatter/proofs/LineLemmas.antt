@@ -14,17 +14,17 @@ use Rattle.toml_lexemes.specs.Lexemes.{cut_toml}
 use Rattle.toml_lexemes.specs.Statements.{Role, a_comment, a_closing, role, trimmed, before_trimmed, Collected, line_ended, with_lexeme}
 use Rattle.toml_lexemes.specs.Statements.{with_lexemes}
 use Rattle.toml_lexemes.specs.Shown.{Stage, IsWholeLexeme, EndsWell, AreRead, least_between}
-use Rattle.toml_formatter.specs.declared.gaps.Gap.{Gap as Between}
-use Rattle.toml_formatter.specs.declared.kind.Last.{Last}
-use Rattle.toml_formatter.specs.declared.kind.Last.TheVariants as last
+use Rattle.toml_documents.specs.declared.gaps.Gap.{Gap as Between}
+use Rattle.toml_documents.specs.declared.kind.Last.{Last}
+use Rattle.toml_documents.specs.declared.kind.Last.TheVariants as last
 use Rattle.toml_formatter.specs.declared.line.Line.{Line}
-use Rattle.toml_formatter.specs.Gaps.{gap_items, least_of, stays, least_needed, Suits, is_last_comment}
+use Rattle.toml_documents.specs.Gaps.{gap_items, least_of, stays, least_needed, Suits, is_last_comment, may_hold}
 use Rattle.toml_formatter.specs.Lines.{directly_after, before_next, IsNested, EndsAs, EndsCollected, Agrees, AreComments, ReadsComments}
 use Rattle.toml_formatter.specs.Lines.{WaitingComments, HoldsNothing, HoldsNothingAfter, waiting, IsOver, LineRead, ShowsTaken, IsValue}
-use Rattle.toml_formatter.specs.Lines.{ClosedRead, IsClosed, TakesMore, begun, may_hold}
-use Rattle.toml_formatter.proofs.Stages.{read_both, with_both, inside_line, MayFollow, text_read, with_comment}
-use Rattle.toml_formatter.proofs.Stages.{waiting_depth, comments_depth, waiting_comments, waiting_more, comments_more}
-use Rattle.toml_formatter.proofs.Stages.{nested_along, waiting_agrees, agrees_then, closing_same, comma_passes}
+use Rattle.toml_formatter.specs.Lines.{ClosedRead, IsClosed, TakesMore, begun}
+use Rattle.toml_formatter.proofs.Stages.{read_both, with_both, inside_line, MayFollow, text_read, with_comment, waiting_depth}
+use Rattle.toml_formatter.proofs.Stages.{comments_depth, waiting_comments, waiting_more, comments_more, nested_along, waiting_agrees}
+use Rattle.toml_formatter.proofs.Stages.{agrees_then, closing_same, comma_passes}
 
 -- ---- texts
 

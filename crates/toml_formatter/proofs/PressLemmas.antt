@@ -15,20 +15,21 @@ use Rattle.toml_lexemes.specs.Lexemes.{toml_lexemes_of}
 use Rattle.toml_lexemes.specs.Statements.{statements}
 use Rattle.toml_lexemes.proofs.ReadItems.{shown_as_read}
 use Rattle.toml_grammar.specs.Nesting.{is_too_deep, max_brackets}
-use Rattle.toml_formatter.specs.Alignment.{comments_as}
+use Rattle.toml_documents.specs.Alignment.{comments_as}
 use Rattle.toml_formatter.specs.Depths.{TakesWithin}
-use Rattle.toml_formatter.specs.Documents.{document_from, lines_with, toml_document, Draft}
+use Rattle.toml_documents.specs.Documents.{document_from, lines_with, toml_document, Draft}
 use Rattle.toml_formatter.specs.Drafts.{ReadsStatement}
-use Rattle.toml_formatter.specs.Formats.{HasTomlOptions, IsLaidToml, IsLaidTomlDocument, IsTomlLayout, ShowsToml, toml_options}
+use Rattle.toml_documents.specs.Laid.{HasTomlOptions, IsLaidToml, IsLaidTomlDocument, toml_options}
+use Rattle.toml_formatter.specs.Formats.{IsTomlLayout, ShowsToml}
 use Rattle.toml_formatter.specs.Lines.{TakesStatement}
 use Rattle.toml_formatter.specs.Presses.{blank_after, AddsLines, HasLines, IsPressed}
 use Rattle.prettyless_laws.specs.InTurn.{EndsHard}
-use Rattle.toml_formatter.specs.Sheets.{IsSheet}
+use Rattle.toml_documents.specs.Sheets.{IsSheet}
 use Rattle.toml_formatter.specs.declared.document.Laid.{Laid}
 use Rattle.toml_formatter.specs.declared.document.Press.{Press}
-use Rattle.toml_formatter.specs.declared.sheet.Sheet.{Sheet}
-use Rattle.toml_formatter.specs.declared.style.Style.{Style}
-use Rattle.toml_formatter.proofs.Aligning.{aligned_statements}
+use Rattle.toml_documents.specs.declared.sheet.Sheet.{Sheet}
+use Rattle.toml_documents.specs.declared.style.Style.{Style}
+use Rattle.toml_documents.proofs.Aligning.{aligned_statements}
 use Rattle.toml_formatter.proofs.DepthLemmas.{line_end_within, next_within}
 use Rattle.toml_formatter.proofs.DraftLemmas.{all_read, blank_reads}
 use Rattle.toml_formatter.proofs.Documents.{AddsStatement, document_blank, document_more, document_none, document_whole}

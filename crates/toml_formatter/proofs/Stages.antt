@@ -3,13 +3,13 @@ use Rattle.std.proofs.Common.{◌≡◌, refl, sym, ◌∙◌, ap, subst, ℕ, z
 use Rattle.prettyless_model.specs.Shows as shown
 use Rattle.prettyless_model.specs.Shows.{Item, Shown, Gap, Mark, Late, SameLine, AnyLine, Spacing, LineEnd, After, with_gap, more}
 use Rattle.toml_lexemes.specs.Bytes.{comma, head}
-use Rattle.toml_lexemes.specs.Statements.{Role, a_comment, a_closing, role, trimmed, Collected, line_ended, line_ended_at}
-use Rattle.toml_lexemes.specs.Statements.{with_held_comma, with_role, with_lexeme, with_lexemes}
+use Rattle.toml_lexemes.specs.Statements.{Role, a_comment, a_closing, role, trimmed, Collected, line_ended, line_ended_at, with_held_comma}
+use Rattle.toml_lexemes.specs.Statements.{with_role, with_lexeme, with_lexemes}
 use Rattle.toml_lexemes.specs.Shown.{Stage, IsWholeLexeme, IsInside, MayStand, AreRead, after_shown, least_between}
-use Rattle.toml_formatter.specs.declared.gaps.Gap.{Gap as Between}
-use Rattle.toml_formatter.specs.declared.gaps.Gap.TheVariants.{Nothing, Space, Beside, Edge, Line, Fill, BlankLine, Break, BlankBreak}
-use Rattle.toml_formatter.specs.declared.kind.Last.{Last}
-use Rattle.toml_formatter.specs.Gaps.{gap_items, least_of, stays, Suits}
+use Rattle.toml_documents.specs.declared.gaps.Gap.{Gap as Between}
+use Rattle.toml_documents.specs.declared.gaps.Gap.TheVariants.{Nothing, Space, Beside, Edge, Line, Fill, BlankLine, Break, BlankBreak}
+use Rattle.toml_documents.specs.declared.kind.Last.{Last}
+use Rattle.toml_documents.specs.Gaps.{gap_items, least_of, stays, Suits}
 use Rattle.toml_formatter.specs.Lines.{directly_after, before_next, IsNested, EndsAs, Agrees, AreComments, WaitingComments, waiting}
 
 -- ---- items

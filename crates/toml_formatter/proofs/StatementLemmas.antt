@@ -12,12 +12,12 @@ use Rattle.toml_lexemes.specs.declared.lexeme.Lexeme.{Lexeme}
 use Rattle.toml_lexemes.specs.declared.lexeme.Lexeme.TheVariants as lexeme
 use Rattle.toml_lexemes.specs.Statements.{trimmed, Collected, with_lexeme, with_lexemes}
 use Rattle.toml_lexemes.specs.Shown.{Stage, IsWholeLexeme, IsReady}
-use Rattle.toml_formatter.specs.declared.gaps.Gap.TheVariants as gap
-use Rattle.toml_formatter.specs.declared.kind.Last.{Last}
-use Rattle.toml_formatter.specs.declared.kind.Last.TheVariants as last
+use Rattle.toml_documents.specs.declared.gaps.Gap.TheVariants as gap
+use Rattle.toml_documents.specs.declared.kind.Last.{Last}
+use Rattle.toml_documents.specs.declared.kind.Last.TheVariants as last
 use Rattle.toml_formatter.specs.declared.line.Line.{Line}
-use Rattle.toml_formatter.specs.Gaps.{least_needed, is_last_comment}
-use Rattle.toml_formatter.specs.Kinds.{is_closing, IsPart}
+use Rattle.toml_documents.specs.Gaps.{least_needed, is_last_comment}
+use Rattle.toml_documents.specs.Kinds.{is_closing, IsPart}
 use Rattle.toml_lexemes.specs.Sound.{LineEndsNext}
 use Rattle.toml_formatter.specs.Lines.{directly_after, before_next, EndsCollected, WaitingComments, waiting, LineRead, ShowsTaken}
 use Rattle.toml_formatter.specs.Lines.{ValueRead, IsValue, ClosedRead, IsClosed, TakesMore, MayGoOn, begun, StatementRead, IsStatement}

@@ -11,15 +11,15 @@ use Rattle.toml_lexemes.specs.Bytes.{hash, head, is_sign, is_quote, ends_word, e
 use Rattle.toml_lexemes.specs.View.{toml_text_of, HasTomlKind}
 use Rattle.toml_lexemes.specs.declared.lexeme.Lexeme.{Lexeme}
 use Rattle.toml_lexemes.specs.declared.lexeme.Lexeme.TheVariants as lexeme
-use Rattle.toml_lexemes.specs.Statements.{Role, a_closing, a_word, any_other, role, role_of, trimmed, Collected, outside}
-use Rattle.toml_lexemes.specs.Statements.{with_role, with_lexeme, with_lexemes}
+use Rattle.toml_lexemes.specs.Statements.{Role, a_closing, a_word, any_other, role, role_of, trimmed, Collected, outside, with_role}
+use Rattle.toml_lexemes.specs.Statements.{with_lexeme, with_lexemes}
 use Rattle.toml_lexemes.specs.Shown.{IsWholeLexeme, least_after_word, least_after}
-use Rattle.toml_formatter.specs.declared.gaps.Gap.{Gap as Between}
-use Rattle.toml_formatter.specs.declared.kind.Last.{Last}
-use Rattle.toml_formatter.specs.declared.kind.Last.TheVariants as last
+use Rattle.toml_documents.specs.declared.gaps.Gap.{Gap as Between}
+use Rattle.toml_documents.specs.declared.kind.Last.{Last}
+use Rattle.toml_documents.specs.declared.kind.Last.TheVariants as last
 use Rattle.toml_formatter.specs.declared.line.Line.{Line}
-use Rattle.toml_formatter.specs.Gaps.{gap_items, least_of, least_needed}
-use Rattle.toml_formatter.specs.Kinds.{is_closing, is_opening, last_after_word, last_after, IsPart}
+use Rattle.toml_documents.specs.Gaps.{gap_items, least_of, least_needed}
+use Rattle.toml_documents.specs.Kinds.{is_closing, is_opening, last_after_word, last_after, IsPart}
 use Rattle.toml_lexemes.specs.Sound.{IsSound, IsSoundIn, LineEndsNext}
 use Rattle.toml_formatter.specs.Lines.{directly_after, EndsAs, EndsCollected, HoldsNothingAfter, WaitingComments, waiting, LineRead}
 use Rattle.toml_formatter.specs.Lines.{ShowsTaken, ValueRead, IsValue, ClosedRead, IsClosed}

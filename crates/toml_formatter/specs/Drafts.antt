@@ -3,12 +3,12 @@ use Rattle.std.specs.Prelude.{◌≡◌, ℕ, Bool, true, false, List, [], ◌�
 use Rattle.prettyless_model.specs.Tree.{Tree}
 use Rattle.prettyless_pointers.specs.Trees.{ref_tree}
 use Rattle.toml_grammar.specs.Sorts.{sort_of}
-use Rattle.toml_formatter.specs.Documents.{End, Level, Draft, end_after_comma, after_comments, is_some, part_end, comments_tree}
-use Rattle.toml_formatter.specs.Documents.{levels_with, with_part, draft_with_statement, document_from}
-use Rattle.toml_formatter.specs.declared.kind.Kind.{Kind}
-use Rattle.toml_formatter.specs.declared.kind.Kind.TheVariants.{Statement}
+use Rattle.toml_documents.specs.Documents.{End, Level, Draft, end_after_comma, after_comments, is_some, part_end, comments_tree}
+use Rattle.toml_documents.specs.Documents.{levels_with, with_part, draft_with_statement, document_from}
+use Rattle.toml_documents.specs.declared.kind.Kind.{Kind}
+use Rattle.toml_documents.specs.declared.kind.Kind.TheVariants.{Statement}
 use Rattle.toml_formatter.specs.declared.line.Line.{Line}
-use Rattle.toml_formatter.specs.declared.style.Style.{Style}
+use Rattle.toml_documents.specs.declared.style.Style.{Style}
 
 -- ---- lines
 

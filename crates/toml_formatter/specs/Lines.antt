@@ -5,13 +5,13 @@ use Rattle.prettyless_pointers.specs.Trees.{ref_tree}
 use Rattle.prettyless_pointers.specs.declared.arena.RefDoc.{RefDoc}
 use Rattle.prettyless_model.specs.Shows.{Item, Shown, shows, after_text, after_line}
 use Rattle.toml_lexemes.specs.Bytes.{comma, head, line_feed}
-use Rattle.toml_lexemes.specs.Statements.{a_comment, role, Collected, none_collected}
-use Rattle.toml_lexemes.specs.Statements.{line_ended, with_lexeme, with_lexemes, statements_of, statements}
+use Rattle.toml_lexemes.specs.Statements.{a_comment, role, Collected, none_collected, line_ended, with_lexeme, with_lexemes, statements_of}
+use Rattle.toml_lexemes.specs.Statements.{statements}
 use Rattle.toml_lexemes.specs.Shown.{Stage, first_stage, IsInside, IsReady, AreRead, collected_at, least_between}
-use Rattle.toml_formatter.specs.Gaps.{least_needed, is_last_comment}
+use Rattle.toml_documents.specs.Gaps.{least_needed, is_last_comment}
 use Rattle.toml_lexemes.specs.Sound.{LineEndsNext}
-use Rattle.toml_formatter.specs.declared.kind.Last.{Last}
-use Rattle.toml_formatter.specs.declared.kind.Last.TheVariants.{Start, Close, Equals, Word, Dot, String, Comma, Comment}
+use Rattle.toml_documents.specs.declared.kind.Last.{Last}
+use Rattle.toml_documents.specs.declared.kind.Last.TheVariants.{Start, Close, Equals, Word, Dot, String, Comma, Comment}
 use Rattle.toml_formatter.specs.declared.line.Line.{Line}
 
 -- directly after a text
@@ -128,17 +128,6 @@ pub record ShowsTaken (nested exact : Bool) (line : Line) (left taken : List (Li
   pub comments_shown : shows (ref_tree line.comments) comment_items
   pub comments : WaitingComments line.is_commented nested line.last rs comment_items
   pub read : (a : Stage) → BeginsLine nested a → LineRead nested exact line left taken items rs a
-
--- what ends so may have a comma or comments that wait in it
-abbrev pub may_hold : Last → Bool
-may_hold Start = false
-may_hold Close = false
-may_hold Equals = false
-may_hold Word = false
-may_hold Dot = false
-may_hold String = false
-may_hold Comma = true
-may_hold Comment = true
 
 -- outside of brackets nothing may come after a comment on its line
 abbrev pub TakesMore : Bool → Line → Type 0

@@ -6,13 +6,13 @@ use Rattle.prettyless_model.specs.declared.options.RenderOptions.{RenderOptions}
 use Rattle.toml_lexemes.specs.Lexemes.{toml_lexemes_of}
 use Rattle.toml_grammar.specs.Nesting.{max_brackets}
 use Rattle.toml_formatter.specs.Depths.{TakesWithin}
-use Rattle.toml_formatter.specs.Documents.{document_from, toml_document}
-use Rattle.toml_formatter.specs.Formats.{HasTomlOptions}
+use Rattle.toml_documents.specs.Documents.{document_from, toml_document}
+use Rattle.toml_documents.specs.Laid.{HasTomlOptions}
 use Rattle.toml_formatter.specs.Lines.{IsDocument}
-use Rattle.toml_formatter.specs.Sheets.{IsSheet}
+use Rattle.toml_documents.specs.Sheets.{IsSheet}
 use Rattle.toml_formatter.specs.declared.document.Laid.{Laid}
 use Rattle.toml_formatter.specs.declared.document.Press.{Press}
-use Rattle.toml_formatter.specs.declared.sheet.Sheet.{Sheet}
+use Rattle.toml_documents.specs.declared.sheet.Sheet.{Sheet}
 
 -- ---- lines
 

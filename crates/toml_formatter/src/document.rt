@@ -9,25 +9,26 @@ ghost use Rattle.toml_lexemes.specs.Lexemes.{toml_lexemes_of};
 ghost use Rattle.toml_lexemes.specs.Sound.{AreSound, IsSound};
 ghost use Rattle.toml_lexemes.specs.View.{toml_text_of, HasTomlKind};
 ghost use Rattle.toml_grammar.specs.Nesting.{is_too_deep};
-ghost use Rattle.toml_formatter.specs.Documents.{lines_with};
+ghost use Rattle.toml_documents.specs.Documents.{lines_with};
 ghost use Rattle.toml_formatter.specs.Errors.{IsFormatMemory, IsRefusalOf};
-ghost use Rattle.toml_formatter.specs.Formats.{HasTomlOptions, IsLaidToml, IsTomlLayout};
+ghost use Rattle.toml_documents.specs.Laid.{HasTomlOptions, IsLaidToml};
+ghost use Rattle.toml_formatter.specs.Formats.{IsTomlLayout};
 ghost use Rattle.toml_formatter.specs.Presses.{blank_after, AddsLines, IsPressed};
 ghost use Rattle.prettyless_laws.specs.InTurn.{EndsHard};
 
 use bumpalo::Bump;
-use crate::ahead::Ahead;
 use crate::error::FormatError;
 use crate::list::Setting;
-use crate::sheet::Sheet;
 use crate::statement::statement;
-use crate::style::Style;
 use prettyless_doc::DocPtr;
 use prettyless_model::options::RenderOptions;
 use prettyless_pointers::{Arena, RefDoc};
 use prettyless_shapes::{ended, nil};
 use prettyless_sink::error::RenderError;
 use std::alloc::{AllocError, Global};
+use toml_documents::Style;
+use toml_documents::ahead::Ahead;
+use toml_documents::sheet::Sheet;
 use toml_lexemes::Lexeme;
 
 /// With so many nodes an arena is given up.

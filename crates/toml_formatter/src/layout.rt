@@ -4,14 +4,15 @@ ghost use Rattle.std.specs.String.{string_bytes};
 ghost use Rattle.toml_lexemes.specs.Lexemes.{toml_lexemes_of};
 ghost use Rattle.toml_grammar.specs.Nesting.{is_too_deep};
 ghost use Rattle.toml_formatter.specs.Errors.{IsRefusalOf};
-ghost use Rattle.toml_formatter.specs.Formats.{HasTomlOptions, IsFormattedToml, IsLaidToml, IsRefusedToml, IsTomlLayout};
+ghost use Rattle.toml_documents.specs.Laid.{HasTomlOptions, IsLaidToml};
+ghost use Rattle.toml_formatter.specs.Formats.{IsFormattedToml, IsRefusedToml, IsTomlLayout};
 ghost use Rattle.toml_lexemes.specs.Sound.{AreSound};
 
 use crate::document::{Press, lay_text};
 use crate::error::FormatError;
-use crate::style::Style;
 use prettyless_model::options::{IndentationPolicy, LineEnding, RenderOptions};
 use std::alloc::Global;
+use toml_documents::Style;
 use toml_grammar::{fault_of, law_closed_strings};
 use toml_lexemes::{Lexeme, SpacedLexer};
 

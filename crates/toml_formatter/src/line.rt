@@ -5,22 +5,21 @@ ghost use Rattle.toml_lexemes.specs.Bytes.{comma, hash, head, line_feed};
 ghost use Rattle.toml_lexemes.specs.View.{toml_text_of, HasTomlKind};
 ghost use Rattle.toml_lexemes.specs.Statements.{role, trimmed, a_closing};
 ghost use Rattle.toml_lexemes.specs.Shown.{IsWholeLexeme};
-ghost use Rattle.toml_formatter.specs.Gaps.{is_nested, is_last_comment};
-ghost use Rattle.toml_formatter.specs.Documents as document;
-ghost use Rattle.toml_formatter.specs.Documents.{Level, end_after_comma, after_comments, closed_end, comma_kept, ends_item};
-ghost use Rattle.toml_formatter.specs.Documents.{is_array};
+ghost use Rattle.toml_documents.specs.Gaps.{is_nested, is_last_comment, may_hold};
+ghost use Rattle.toml_documents.specs.Documents as document;
+ghost use Rattle.toml_documents.specs.Documents.{Level, end_after_comma, after_comments, closed_end, comma_kept, ends_item, is_array};
 ghost use Rattle.toml_formatter.specs.Drafts.{Stands, line_end, settled_end};
-ghost use Rattle.toml_formatter.specs.Kinds.{last_after, IsPart};
-ghost use Rattle.toml_formatter.specs.declared.kind.Kind.{Kind};
-ghost use Rattle.toml_formatter.specs.Lines.{begun, may_hold, IsValue, ShowsTaken, IsClosed, TakesMore};
+ghost use Rattle.toml_documents.specs.Kinds.{last_after, IsPart};
+ghost use Rattle.toml_documents.specs.declared.kind.Kind.{Kind};
+ghost use Rattle.toml_formatter.specs.Lines.{begun, IsValue, ShowsTaken, IsClosed, TakesMore};
 
-use crate::gaps::{before, before_comma, before_comment};
-use crate::kind::{Kind, Last, last_of};
 use crate::parts::{apart, broken_if, trailed, uncounted};
-use crate::trim::trimmed;
 use prettyless_pointers::{Arena, RefDoc};
 use prettyless_shapes::{joined, nil, text};
 use prettyless_text::BuildError;
+use toml_documents::gaps::{before, before_comma, before_comment};
+use toml_documents::kind::{Kind, Last, last_of};
+use toml_documents::trim::trimmed;
 use toml_lexemes::Lexeme;
 
 /// The lexemes of a line or of a list so far. A comma that was taken waits for what comes after it, and comments wait for

@@ -3,25 +3,25 @@ ghost use Rattle.std.specs.Prelude.{◌≡◌, ◌++◌, ◌≤◌, ◌∷◌, [
 ghost use Rattle.prettyless_pointers.specs.Trees.{ref_tree};
 ghost use Rattle.toml_lexemes.specs.View.{toml_text_of, HasTomlKind};
 ghost use Rattle.toml_formatter.specs.Depths.{TakesWithin};
-ghost use Rattle.toml_formatter.specs.Documents.{Level, indent_in, level_end, list_tree, new_level, unclosed_tree};
+ghost use Rattle.toml_documents.specs.Documents.{Level, indent_in, level_end, list_tree, new_level, unclosed_tree};
 ghost use Rattle.toml_formatter.specs.Drafts.{ReadsOn, ReadsPart, Stands};
 ghost use Rattle.toml_formatter.specs.Errors.{IsFormatMemory, IsRefusalWithin};
-ghost use Rattle.toml_formatter.specs.Gaps.{is_nested};
-ghost use Rattle.toml_formatter.specs.Kinds.{is_closing, is_opening, last_after, IsPart};
-ghost use Rattle.toml_formatter.specs.Lexing.{ClosesNext};
+ghost use Rattle.toml_documents.specs.Gaps.{is_nested};
+ghost use Rattle.toml_documents.specs.Kinds.{is_closing, is_opening, last_after, IsPart};
+ghost use Rattle.toml_documents.specs.Lexing.{ClosesNext};
 ghost use Rattle.toml_lexemes.specs.Sound.{IsSound};
 ghost use Rattle.toml_formatter.specs.Lines.{IsValue, ShowsTaken, TakesLine, TakesValue};
 
-use crate::ahead::Ahead;
 use crate::error::FormatError;
-use crate::gaps::before_close;
-use crate::kind::{Kind, kind_of, opens};
 use crate::line::Line;
-use crate::numbers::kind_before;
 use crate::parts::{apart, lexeme};
-use crate::style::Style;
 use prettyless_pointers::{Arena, RefDoc};
 use prettyless_shapes::{grouped, indented, joined, text};
+use toml_documents::Style;
+use toml_documents::ahead::Ahead;
+use toml_documents::gaps::before_close;
+use toml_documents::kind::{Kind, kind_of, opens};
+use toml_documents::numbers::kind_before;
 use toml_lexemes::Lexeme;
 
 /// What each lexeme of a text is laid out with.

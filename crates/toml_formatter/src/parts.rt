@@ -1,6 +1,5 @@
 //! Documents of lexemes, and documents with a gap between them.
 ghost use Rattle.std.specs.Prelude.{◌≡◌, [], ◌∷◌, IfOk};
-ghost use Rattle.std.specs.List.{list_any};
 ghost use Rattle.prettyless_trees.specs.Counted as counted;
 ghost use Rattle.prettyless_trees.specs.Built.{append, softline};
 ghost use Rattle.prettyless_trees.specs.Lines.{line_};
@@ -9,15 +8,16 @@ ghost use Rattle.prettyless_model.specs.Shows.{Mark, apart, loose, shows, spaced
 ghost use Rattle.prettyless_shapes.specs.Items.{ShowsBoth, ShowsMore, ShowsSame};
 ghost use Rattle.prettyless_laws.specs.Shown.{text_items};
 ghost use Rattle.toml_lexemes.specs.Bytes.{blank_space, comma};
-ghost use Rattle.toml_formatter.specs.Documents.{broken_if, is_line_feed_byte, lexeme_tree, separated};
-ghost use Rattle.toml_formatter.specs.Gaps.{gap_items};
+ghost use Rattle.toml_documents.specs.Documents.{broken_if, lexeme_tree, separated};
+ghost use Rattle.toml_documents.specs.Gaps.{gap_items};
 
-use crate::gaps::Gap;
 use prettyless_alloc::DocAllocator;
 use prettyless_build::{DocBuilder, Pretty};
 use prettyless_doc::{BuildDoc, Doc, DocPlace};
 use prettyless_shapes::{broken, ended, joined, lined, spaced, stacked, text};
 use prettyless_text::{BuildError, Text};
+use toml_documents::breaks::has_lines;
+use toml_documents::gaps::Gap;
 
 /// A lexeme, as it is spelled. Where it has several lines, the groups around it are not flat.
 pub(crate) fn lexeme<'a, D: DocPlace<'a>>(
@@ -54,13 +54,6 @@ pub(crate) fn uncounted<'a, D: DocPlace<'a>>(
     ensures items { IfOk result (λ p. shows (D.Doc.tree p) (text_items spelling.now)) }
 {
     place.alloc(Doc::TextWithLen(0, Text::Borrowed(spelling)))
-}
-
-/// Whether a line ends in the text.
-pub(crate) fn has_lines(text: &str) -> bool
-    ensures { result ≡ list_any is_line_feed_byte text.now }
-{
-    text.as_bytes().iter().any(|byte| *byte == b'\n')
 }
 
 /// A document, and a line end after it, or nothing where lines are flat.

@@ -6,22 +6,22 @@ ghost use Rattle.toml_grammar.specs.Nesting.{max_brackets};
 ghost use Rattle.prettyless_trees.specs.Built.{append};
 ghost use Rattle.prettyless_trees.specs.Counted as counted;
 ghost use Rattle.toml_formatter.specs.Depths.{TakesWithin};
-ghost use Rattle.toml_formatter.specs.Documents.{Level, closed_end, new_statement, with_part};
+ghost use Rattle.toml_documents.specs.Documents.{Level, closed_end, new_statement, with_part};
 ghost use Rattle.toml_formatter.specs.Drafts.{ReadsFirst, ReadsOn, ReadsStatement, Stands};
-ghost use Rattle.toml_formatter.specs.declared.kind.Kind.TheVariants.{Statement};
+ghost use Rattle.toml_documents.specs.declared.kind.Kind.TheVariants.{Statement};
 ghost use Rattle.toml_formatter.specs.Errors.{IsFormatMemory, IsRefusalWithin};
-ghost use Rattle.toml_formatter.specs.Kinds.{is_closing};
+ghost use Rattle.toml_documents.specs.Kinds.{is_closing};
 ghost use Rattle.toml_lexemes.specs.Sound.{IsSound, LineEndsNext};
 ghost use Rattle.toml_formatter.specs.Lines.{TakesMore, ShowsTaken, MayGoOn, TakesStatement};
 
-use crate::ahead::Ahead;
 use crate::error::FormatError;
-use crate::kind::{Kind, Last, closes, last_of};
 use crate::line::Line;
 use crate::list::{Setting, value};
-use crate::trim::trimmed;
 use prettyless_pointers::RefDoc;
 use prettyless_shapes::{joined, text};
+use toml_documents::ahead::Ahead;
+use toml_documents::kind::{Kind, Last, closes, last_of};
+use toml_documents::trim::trimmed;
 use toml_grammar::MAX_DEPTH;
 use toml_lexemes::Lexeme;
 

@@ -3,11 +3,12 @@ use Rattle.std.specs.String.{string_bytes}
 use Rattle.toml_grammar.specs.Grammar.{is_toml}
 use Rattle.toml_grammar.specs.Nesting.{is_too_deep}
 use Rattle.toml_formatter.specs.Errors.{IsRefusalOf}
-use Rattle.toml_formatter.specs.Formats.{IsFormattedToml, IsLaidToml, IsRefusedToml, IsTomlLayout}
+use Rattle.toml_formatter.specs.Formats.{IsFormattedToml, IsRefusedToml, IsTomlLayout}
+use Rattle.toml_documents.specs.Laid.{IsLaidToml}
 use Rattle.toml_formatter.specs.declared.error.FormatError.{FormatError}
 use Rattle.toml_formatter.specs.declared.error.FormatError.TheVariants.{NotToml, TooDeep, Memory}
-use Rattle.toml_formatter.specs.declared.style.Style.{Style}
-use Rattle.toml_formatter.proofs.LaidTexts.{layouts_are_toml}
+use Rattle.toml_documents.specs.declared.style.Style.{Style}
+use Rattle.toml_documents.proofs.LaidTexts.{layouts_are_toml}
 use Rattle.toml_formatter.proofs.SoundTexts.{sound_text}
 use Rattle.toml_formatter.proofs.layout.formatted.Goals as goal
 

@@ -4,20 +4,21 @@ use Rattle.toml_grammar.specs.Nesting.{nest_too_deep}
 use Rattle.prettyless_pointers.specs.Trees.{ref_tree}
 use Rattle.toml_lexemes.specs.Bytes.{comma, line_feed}
 use Rattle.toml_lexemes.specs.View.{toml_text_of, HasTomlKind}
-use Rattle.toml_formatter.specs.Gaps.{is_nested}
-use Rattle.toml_formatter.specs.Kinds.{is_opening}
+use Rattle.toml_documents.specs.Gaps.{is_nested}
+use Rattle.toml_documents.specs.Kinds.{is_opening}
 use Rattle.toml_formatter.specs.Errors.{IsRefusalWithin}
 use Rattle.toml_formatter.specs.declared.error.FormatError.TheVariants.{TooDeep}
 use Rattle.toml_formatter.proofs.DepthLemmas.{bracket_refused, closed_within, ended_within, list_refused, memory_within, next_within}
 use Rattle.toml_formatter.proofs.DepthLemmas.{of_memory, part_within, passed_on, plain_within, refused_after}
-use Rattle.toml_formatter.proofs.DraftLemmas.{comma_reads, line_end_reads, list_part, list_reads, plain_levels, reads_none, reads_then}
-use Rattle.toml_formatter.proofs.DraftLemmas.{comment_reads, unclosed_list_reads, value_reads}
+use Rattle.toml_formatter.proofs.DraftLemmas.{comma_reads, line_end_reads, list_reads, plain_levels, reads_none, reads_then, comment_reads}
+use Rattle.toml_formatter.proofs.DraftLemmas.{unclosed_list_reads, value_reads}
+use Rattle.toml_documents.proofs.LexemeKinds.{list_part}
 use Rattle.toml_formatter.proofs.Values.{part_alone}
-use Rattle.toml_formatter.specs.Documents.{document_from, Level, lexeme_tree, new_level, with_part}
+use Rattle.toml_documents.specs.Documents.{document_from, Level, lexeme_tree, new_level, with_part}
 use Rattle.toml_formatter.specs.Drafts.{ReadsOn}
 use Rattle.toml_formatter.specs.Lines.{ShowsTaken, TakesLine}
-use Rattle.toml_formatter.specs.Numbers.{kind_before}
-use Rattle.toml_formatter.specs.declared.kind.Kind.{Kind}
+use Rattle.toml_documents.specs.Numbers.{kind_before}
+use Rattle.toml_documents.specs.declared.kind.Kind.{Kind}
 use Rattle.toml_formatter.proofs.list.+value.Goals as goal
 
 pub inside-loop-next-preserved : goal.inside-loop-next-preserved

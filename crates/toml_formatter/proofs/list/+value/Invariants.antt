@@ -1,6 +1,6 @@
 use Rattle.std.proofs.Common.{◌+◌, ◌*◌, length, true, List, ℕ}
 use Rattle.toml_formatter.specs.Depths.{TakesWithin}
-use Rattle.toml_formatter.specs.Documents.{new_level}
+use Rattle.toml_documents.specs.Documents.{new_level}
 use Rattle.toml_formatter.specs.Drafts.{ReadsOn}
 use Rattle.toml_formatter.specs.Lines.{TakesLine}
 use Rattle.toml_formatter.proofs.list.+value.Given as goal

@@ -3,13 +3,12 @@ use Rattle.prettyless_trees.specs.Built.{append, group, nest}
 use Rattle.prettyless_trees.specs.Counted.{text}
 use Rattle.prettyless_pointers.specs.Trees.{ref_tree}
 use Rattle.toml_lexemes.specs.View.{toml_text_of}
-use Rattle.toml_formatter.specs.Documents.{closed_end, indent_in, separated}
+use Rattle.toml_documents.specs.Documents.{closed_end, indent_in, separated}
 use Rattle.toml_formatter.specs.Drafts.{line_end}
-use Rattle.toml_formatter.specs.Gaps.{gap_before_close}
-use Rattle.toml_formatter.specs.declared.kind.Kind.{Kind}
+use Rattle.toml_documents.specs.Gaps.{gap_before_close}
+use Rattle.toml_documents.specs.declared.kind.Kind.{Kind}
 use Rattle.toml_formatter.specs.Lines.{ShowsTaken, IsClosed}
-use Rattle.toml_formatter.proofs.Values.{closing_role, closing_shows, list_closed, MakesList, opening_shows}
-use Rattle.toml_formatter.proofs.Values.{ShowsClosing, ShowsOpening}
+use Rattle.toml_formatter.proofs.Values.{closing_role, closing_shows, list_closed, MakesList, opening_shows, ShowsClosing, ShowsOpening}
 use Rattle.toml_formatter.proofs.list.closed.Goals as goal
 
 pub returns-clause-made : goal.returns-clause-made

@@ -2,7 +2,7 @@ use Rattle.std.proofs.Common.{◌≡◌, sym, ◌∙◌, ap, true, []}
 use Rattle.prettyless_trees.specs.Built.{append}
 use Rattle.prettyless_trees.specs.Counted.{text}
 use Rattle.prettyless_pointers.specs.Trees.{ref_tree}
-use Rattle.toml_formatter.specs.Documents.{level_end}
+use Rattle.toml_documents.specs.Documents.{level_end}
 use Rattle.toml_formatter.specs.Drafts.{line_end}
 use Rattle.toml_formatter.proofs.DraftLemmas.{settled_same}
 use Rattle.toml_formatter.proofs.LineLemmas.{IsSettled, never}

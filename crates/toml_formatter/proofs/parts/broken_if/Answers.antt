@@ -1,6 +1,6 @@
 use Rattle.std.proofs.Common.{sym, ◌∙◌, ap, Bool}
 use Rattle.std.proofs.lemmas.Result.{IfOk-weaker}
-use Rattle.toml_formatter.specs.Documents.{broken_if}
+use Rattle.toml_documents.specs.Documents.{broken_if}
 use Rattle.toml_formatter.proofs.parts.broken_if.Goals as goal
 
 pub returns-then-breaks-clause-ok : goal.returns-then-breaks-clause-ok

@@ -1,6 +1,6 @@
 use Rattle.std.proofs.Common.{◌∙◌}
 use Rattle.std.proofs.lemmas.Result.{IfOk-weaker}
-use Rattle.toml_formatter.specs.Documents.{broken_if}
+use Rattle.toml_documents.specs.Documents.{broken_if}
 use Rattle.toml_formatter.proofs.parts.lexeme.Goals as goal
 
 pub returns-clause-ok : goal.returns-clause-ok

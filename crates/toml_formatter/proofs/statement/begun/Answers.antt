@@ -7,19 +7,19 @@ use Rattle.toml_lexemes.specs.View.{toml_text_of, HasTomlKind}
 use Rattle.toml_lexemes.specs.declared.lexeme.Lexeme.{Lexeme}
 use Rattle.toml_lexemes.specs.declared.lexeme.Lexeme.TheVariants as lexeme
 use Rattle.toml_grammar.specs.Nesting.{max_brackets}
-use Rattle.toml_formatter.specs.Kinds.{is_closing, is_opening, last_after_word, last_after, last_after_sort}
+use Rattle.toml_documents.specs.Kinds.{is_closing, is_opening, last_after_word, last_after, last_after_sort}
 use Rattle.toml_grammar.specs.Sorts.{Sort}
 use Rattle.toml_grammar.proofs.Allowed.{sort_comment}
-use Rattle.toml_formatter.specs.Gaps.{is_last_comment}
+use Rattle.toml_documents.specs.Gaps.{is_last_comment}
 use Rattle.toml_lexemes.specs.Sound.{IsSound}
-use Rattle.toml_formatter.specs.Documents.{document_from, new_statement, with_part}
+use Rattle.toml_documents.specs.Documents.{document_from, new_statement, with_part}
 use Rattle.toml_formatter.specs.Drafts.{Stands}
-use Rattle.toml_formatter.specs.declared.kind.Last.TheVariants as last
+use Rattle.toml_documents.specs.declared.kind.Last.TheVariants as last
 use Rattle.toml_formatter.specs.Lines.{ShowsTaken, MayGoOn, begun}
 use Rattle.toml_formatter.specs.declared.line.Line.{Line}
 use Rattle.toml_formatter.proofs.DepthLemmas.{closing_within, plain_within}
-use Rattle.toml_formatter.proofs.DraftLemmas.{begun_stands, closing_first, closing_last, comma_first, first_reads, part_last}
-use Rattle.toml_formatter.proofs.DraftLemmas.{comment_first_reads}
+use Rattle.toml_formatter.proofs.DraftLemmas.{begun_stands, closing_first, closing_last, comma_first, first_reads, comment_first_reads}
+use Rattle.toml_documents.proofs.LexemeKinds.{part_last}
 use Rattle.toml_formatter.proofs.LineLemmas.{trimmed_shows}
 use Rattle.toml_formatter.proofs.StatementLemmas.{bracket_begins, comma_begins, part_of, comment_begins, value_begins}
 use Rattle.toml_formatter.proofs.Values.{closing_shows, part_whole, comment_whole, ShowsClosing}

@@ -3,9 +3,9 @@ use Rattle.prettyless_trees.specs.Built.{append}
 use Rattle.prettyless_trees.specs.Counted.{text}
 use Rattle.prettyless_pointers.specs.Trees.{ref_tree}
 use Rattle.toml_lexemes.specs.View.{toml_text_of}
-use Rattle.toml_formatter.specs.Documents.{closed_end, new_statement, with_part}
+use Rattle.toml_documents.specs.Documents.{closed_end, new_statement, with_part}
 use Rattle.toml_formatter.specs.Drafts.{line_end, Stands}
-use Rattle.toml_formatter.specs.declared.kind.Last.TheVariants.{Close}
+use Rattle.toml_documents.specs.declared.kind.Last.TheVariants.{Close}
 use Rattle.toml_formatter.specs.Lines.{ShowsTaken}
 use Rattle.toml_formatter.specs.declared.line.Line.{Line}
 use Rattle.toml_formatter.proofs.DraftLemmas.{begun_stands, closing_last}

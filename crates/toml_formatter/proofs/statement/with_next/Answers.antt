@@ -6,9 +6,9 @@ use Rattle.toml_lexemes.specs.View.{toml_text_of, HasTomlKind}
 use Rattle.toml_lexemes.specs.Sound.{IsSound}
 use Rattle.toml_formatter.specs.Lines.{ShowsTaken}
 use Rattle.toml_grammar.specs.Nesting.{max_brackets}
-use Rattle.toml_formatter.specs.Gaps.{is_last_comment}
-use Rattle.toml_formatter.specs.Kinds.{is_closing, is_opening}
-use Rattle.toml_formatter.specs.declared.kind.Kind.TheVariants.{Statement}
+use Rattle.toml_documents.specs.Gaps.{is_last_comment}
+use Rattle.toml_documents.specs.Kinds.{is_closing, is_opening}
+use Rattle.toml_documents.specs.declared.kind.Kind.TheVariants.{Statement}
 use Rattle.toml_formatter.proofs.DepthLemmas.{closing_within, plain_within}
 use Rattle.toml_formatter.proofs.DraftLemmas.{closing_reads, comma_reads, comment_reads, value_reads}
 use Rattle.toml_formatter.proofs.StatementLemmas.{part_of}

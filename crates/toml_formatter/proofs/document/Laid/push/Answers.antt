@@ -1,7 +1,7 @@
 use Rattle.std.proofs.Common.{◌≡◌, ◌∙◌, ap, subst, List, ℕ, ◌++◌}
 use Rattle.std.specs.String.{string_bytes}
 use Rattle.prettyless_pointers.specs.Trees.{ref_tree}
-use Rattle.toml_formatter.specs.Sheets.{IsSheet}
+use Rattle.toml_documents.specs.Sheets.{IsSheet}
 use Rattle.toml_formatter.proofs.PressLemmas.{lines_added}
 use Rattle.toml_formatter.proofs.document.Laid.push.Goals as goal
 

@@ -1,9 +1,9 @@
 use Rattle.std.proofs.Common.{◌≡◌, sym, ◌∙◌, ap, Bool, true, false, ◌∷◌}
-use Rattle.toml_formatter.specs.Documents.{broken_if, trailed_end}
+use Rattle.toml_documents.specs.Documents.{broken_if, trailed_end}
 use Rattle.prettyless_pointers.specs.Trees.{ref_tree}
 use Rattle.toml_formatter.specs.Drafts.{line_end}
 use Rattle.toml_formatter.proofs.LineLemmas.{closed_marked, closed_plain, comma_changed, IsSettled}
-use Rattle.toml_formatter.specs.Gaps.{is_nested}
+use Rattle.toml_documents.specs.Gaps.{is_nested}
 use Rattle.toml_formatter.proofs.DraftLemmas.{closed_same}
 use Rattle.toml_formatter.proofs.line.Line.closed.Goals as goal
 

@@ -1,7 +1,7 @@
 use Rattle.std.proofs.Common.{sym, subst, true, []}
 use Rattle.toml_formatter.specs.declared.line.Line.{Line}
 use Rattle.toml_formatter.specs.Lines.{ShowsTaken}
-use Rattle.toml_formatter.specs.Documents.{new_level}
+use Rattle.toml_documents.specs.Documents.{new_level}
 use Rattle.toml_formatter.specs.Drafts.{Stands}
 use Rattle.toml_formatter.proofs.DraftLemmas.{new_stands}
 use Rattle.toml_formatter.proofs.LineLemmas.{no_lexeme}

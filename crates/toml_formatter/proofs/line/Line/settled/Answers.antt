@@ -1,7 +1,7 @@
 use Rattle.std.proofs.Common.{◌∙◌}
 use Rattle.std.proofs.lemmas.Result.{IfOk-weaker}
 use Rattle.prettyless_pointers.specs.Trees.{ref_tree}
-use Rattle.toml_formatter.specs.Documents.{after_comments}
+use Rattle.toml_documents.specs.Documents.{after_comments}
 use Rattle.toml_formatter.proofs.line.Line.settled.Goals as goal
 
 pub returns-clause-line : goal.returns-clause-line

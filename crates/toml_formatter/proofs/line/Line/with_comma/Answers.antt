@@ -1,5 +1,5 @@
 use Rattle.std.proofs.Common.{sym, ◌∙◌, subst}
-use Rattle.toml_formatter.specs.Documents.{level_with_comma}
+use Rattle.toml_documents.specs.Documents.{level_with_comma}
 use Rattle.toml_formatter.specs.Drafts.{Stands}
 use Rattle.toml_formatter.specs.declared.line.Line.{Line}
 use Rattle.toml_formatter.proofs.DraftLemmas.{comma_follows, comma_waits}

@@ -1,8 +1,8 @@
 use Rattle.std.proofs.Common.{◌≡◌, sym, ◌∙◌, ap, subst, refl, true, false, [], ◌∷◌, ◌++◌, List, ℕ}
 use Rattle.prettyless_model.specs.Tree.{TextWithLen}
 use Rattle.prettyless_pointers.specs.Trees.{ref_tree}
-use Rattle.toml_formatter.specs.Gaps.{is_nested}
-use Rattle.toml_formatter.specs.Documents.{with_comment, comment_tree}
+use Rattle.toml_documents.specs.Gaps.{is_nested}
+use Rattle.toml_documents.specs.Documents.{with_comment, comment_tree}
 use Rattle.toml_formatter.specs.Drafts.{Stands}
 use Rattle.toml_formatter.specs.Lines.{ShowsTaken}
 use Rattle.toml_formatter.specs.declared.line.Line.{Line}

@@ -1,9 +1,9 @@
 use Rattle.std.proofs.Common.{sym, ap, Bool}
 use Rattle.prettyless_pointers.specs.Trees.{ref_tree}
 use Rattle.toml_lexemes.specs.Bytes.{comma}
-use Rattle.toml_formatter.specs.Documents.{end_after_comma}
+use Rattle.toml_documents.specs.Documents.{end_after_comma}
 use Rattle.toml_formatter.specs.Drafts.{line_end}
-use Rattle.toml_formatter.specs.Gaps.{Suits}
+use Rattle.toml_documents.specs.Gaps.{Suits}
 use Rattle.toml_formatter.proofs.DraftLemmas.{comma_end}
 use Rattle.toml_formatter.proofs.LineLemmas.{comma_shown}
 use Rattle.toml_formatter.proofs.line.Line.with_settled_comma.Goals as goal

@@ -1,6 +1,6 @@
 use Rattle.std.proofs.Common.{sym, ap, Bool}
 use Rattle.prettyless_pointers.specs.Trees.{ref_tree}
-use Rattle.toml_formatter.specs.Documents.{after_comments}
+use Rattle.toml_documents.specs.Documents.{after_comments}
 use Rattle.toml_formatter.specs.Drafts.{line_end}
 use Rattle.toml_formatter.proofs.DraftLemmas.{comments_end}
 use Rattle.toml_formatter.proofs.LineLemmas.{comments_shown}

@@ -1,7 +1,7 @@
 use Rattle.std.proofs.Common.{◌∙◌, true, false, ◌∷◌}
 use Rattle.prettyless_pointers.specs.Trees.{ref_tree}
 use Rattle.toml_lexemes.specs.View.{toml_text_of}
-use Rattle.toml_formatter.specs.Gaps.{is_nested}
+use Rattle.toml_documents.specs.Gaps.{is_nested}
 use Rattle.toml_formatter.proofs.DraftLemmas.{part_stands, settled_same}
 use Rattle.toml_formatter.proofs.LineLemmas.{goes_on_last, IsSettled, value_taken}
 use Rattle.toml_formatter.proofs.line.Line.with_value.Goals as goal

@@ -1,0 +1,14 @@
+pub mod Gaps
+pub mod Kinds
+pub mod Numbers
+pub mod Ahead
+pub mod Lexing
+pub mod Alignment
+pub mod AlignmentLaws
+pub mod Documents
+pub mod Walks
+pub mod Sheets
+pub mod Spellings
+pub mod LaidLaws
+pub mod Laid
+pub use Rattle.prettyless_laws.specs.Bits

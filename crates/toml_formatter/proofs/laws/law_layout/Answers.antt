@@ -1,5 +1,0 @@
-use Rattle.toml_formatter.proofs.ExactDocuments.{layouts_spelled_out}
-use Rattle.toml_formatter.proofs.laws.law_layout.Goals as goal
-
-pub returns : goal.returns
-returns c = layouts_spelled_out

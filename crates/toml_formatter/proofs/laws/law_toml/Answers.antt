@@ -1,5 +1,0 @@
-use Rattle.toml_formatter.proofs.LaidTexts.{layouts_are_toml}
-use Rattle.toml_formatter.proofs.laws.law_toml.Goals as goal
-
-pub returns : goal.returns
-returns c = layouts_are_toml
