@@ -4,7 +4,7 @@ use crate::number::number;
 use crate::reading::read_document;
 use crate::refusal::Refusal;
 use crate::words::repeated;
-use prettyless::DocPlace;
+use prettyless_doc::DocPlace;
 use prettyless_model::options::{IndentationPolicy, LineEnding, RenderOptions};
 
 /// A case that was read: a document, and what is asked of its layout.

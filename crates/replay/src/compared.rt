@@ -7,7 +7,9 @@ use crate::refusal::Refusal;
 use crate::statement::{Statement, VisitCounts};
 use crate::words::Line;
 use bumpalo::Bump;
-use prettyless::{Arena, BoxAllocator, DocPlace, DocPtr, RcAllocator, Visits};
+use prettyless_doc::{DocPlace, DocPtr};
+use prettyless_pointers::{Arena, BoxAllocator, RcAllocator};
+use prettyless_sink::visits::Visits;
 use std::alloc::{AllocError, Global};
 use std::fmt;
 

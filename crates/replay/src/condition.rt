@@ -2,7 +2,7 @@
 use crate::expected::Expected;
 use crate::operand::{Operand, take_number, take_word};
 use crate::refusal::Refusal;
-use prettyless::{ColumnTest, NestingTest};
+use prettyless_model::choice::{ColumnTest, NestingTest};
 
 /// Takes the test of a column whose words come next.
 pub fn take_column_test<T: Drop>(

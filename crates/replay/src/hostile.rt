@@ -10,7 +10,8 @@ use crate::case::ReadCase;
 use crate::outcome::Outcome;
 use crate::refusal::Refusal;
 use call::Laying;
-use prettyless::{DocPtr, IndentationPolicy, LineEnding, RenderOptions};
+use prettyless_doc::DocPtr;
+use prettyless_model::options::{IndentationPolicy, LineEnding, RenderOptions};
 use std::alloc::Global;
 use trial::trials;
 

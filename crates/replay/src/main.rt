@@ -26,7 +26,7 @@ mod text;
 mod words;
 
 use answer::Asked;
-use prettyless::IoWrite;
+use prettyless_sink::io_write::IoWrite;
 use random::first_other;
 use request::{ReplayEnd, Request, USAGE, requested};
 use std::io::{BufReader, BufWriter, ErrorKind, Write};

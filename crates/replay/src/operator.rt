@@ -1,5 +1,5 @@
 use crate::names::named_in;
-use prettyless::Doc;
+use prettyless_doc::Doc;
 use prettyless_model::kind::{Indenting, Pair, Single};
 
 /// A node with nothing below it and no text.

@@ -2,7 +2,10 @@
 use crate::case::ReadCase;
 use crate::refusal::Refusal;
 use crate::text::word_of;
-use prettyless::{DocPtr, FmtWrite, RenderCost, RenderError, Visits};
+use prettyless_doc::DocPtr;
+use prettyless_sink::error::RenderError;
+use prettyless_sink::fmt_write::FmtWrite;
+use prettyless_sink::visits::{RenderCost, Visits};
 use std::alloc::{AllocError, Global};
 
 /// Which nodes a render begins with.

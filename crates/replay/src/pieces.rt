@@ -4,7 +4,9 @@ ghost use Rattle.std.specs.Prelude.{⊤, None};
 use crate::case::ReadCase;
 use crate::refusal::Refusal;
 use crate::text::word_of;
-use prettyless::{DocPtr, Render, RenderError};
+use prettyless_doc::DocPtr;
+use prettyless_sink::error::RenderError;
+use prettyless_sink::render::Render;
 use std::alloc::{AllocError, Global};
 
 // A sink that notes each piece as a word in hexadecimal.

@@ -6,10 +6,12 @@ use crate::operator::Leaf;
 use crate::outcome::{Over, laid_out};
 use crate::refusal::Refusal;
 use bumpalo::Bump;
-use prettyless::text::{CowStr, Text};
-use prettyless::{Arena, ColumnTest, Doc, DocPlace, NestingTest, RefDoc};
+use prettyless_doc::text::{CowStr, Text};
+use prettyless_doc::{Doc, DocPlace};
+use prettyless_model::choice::{ColumnTest, NestingTest};
 use prettyless_model::kind::{Indenting, Pair, Single};
 use prettyless_model::options::{IndentationPolicy, LineEnding, RenderOptions};
+use prettyless_pointers::{Arena, RefDoc};
 use std::alloc::{AllocError, Global};
 
 // What stands more than once here comes more often.

@@ -1,6 +1,6 @@
 use crate::expected::Expected;
 use hex::FromHexError;
-use prettyless::text::BuildError;
+use prettyless_doc::BuildError;
 use std::alloc::{AllocError, AllocFailed};
 
 /// Why a line has no outcome.

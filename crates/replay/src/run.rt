@@ -1,5 +1,5 @@
 use crate::answer::{Answer, Asked, answered};
-use prettyless::Render;
+use prettyless_sink::render::Render;
 use std::alloc::Global;
 use std::io;
 use std::io::{BufRead, ErrorKind};

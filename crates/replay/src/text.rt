@@ -1,7 +1,7 @@
 //! Texts as words: in hexadecimal with two digits for each byte, and `-` for no byte, or in quotes.
 use crate::expected::Expected;
 use crate::refusal::Refusal;
-use prettyless::text::CowStr;
+use prettyless_doc::text::CowStr;
 use std::alloc::{AllocError, Global};
 
 /// The word that writes these bytes in hexadecimal.

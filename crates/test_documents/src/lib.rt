@@ -1,6 +1,5 @@
 //! Tests of documents: the calls that build them, each in every place of nodes, the parts that they are made of, and what no case of
 //! `replay` can say: the constants of an arena, memory that a `Bump` refuses, the sizes of nodes, and the laws as a caller names them.
-//! And layouts of the guide's entries, read back.
 #![tactic(auto)]
 
 #[cfg(test)]
@@ -17,8 +16,6 @@ mod constants;
 mod deep;
 #[cfg(test)]
 mod derived;
-#[cfg(test)]
-mod entries;
 #[cfg(test)]
 mod expected;
 #[cfg(test)]

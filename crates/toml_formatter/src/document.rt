@@ -16,10 +16,10 @@ ghost use Rattle.toml_formatter.specs.Formats.{IsTomlLayout};
 ghost use Rattle.toml_formatter.specs.Presses.{blank_after, AddsLines, IsPressed};
 ghost use Rattle.prettyless_laws.specs.InTurn.{EndsHard};
 
-use bumpalo::Bump;
 use crate::error::FormatError;
 use crate::list::Setting;
 use crate::statement::statement;
+use bumpalo::Bump;
 use prettyless_doc::DocPtr;
 use prettyless_model::options::RenderOptions;
 use prettyless_pointers::{Arena, RefDoc};

@@ -1,8 +1,12 @@
 //! The calls that render or print.
 use crate::hostile::writer::{Fault, Step, Writer, Wrong};
-use prettyless::{
-    Doc, DocPtr, FmtWrite, IoWrite, OpaqueWriter, RenderCost, RenderError, RenderOptions,
-};
+use prettyless_doc::{Doc, DocPtr};
+use prettyless_model::options::RenderOptions;
+use prettyless_sink::error::RenderError;
+use prettyless_sink::fmt_write::FmtWrite;
+use prettyless_sink::io_write::IoWrite;
+use prettyless_sink::text_writer::OpaqueWriter;
+use prettyless_sink::visits::RenderCost;
 use std::alloc::{AllocError, Global};
 use std::fmt::Write;
 use std::{fmt, io};

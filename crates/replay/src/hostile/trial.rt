@@ -4,7 +4,7 @@ use crate::hostile::writer::{Fault, Step, Writer, Wrong};
 use crate::outcome::Outcome;
 use crate::refusal::Refusal;
 use crate::text::word_of;
-use prettyless::DocPtr;
+use prettyless_doc::DocPtr;
 use std::alloc::{AllocError, Global};
 
 /// A call, and a writer for it.
