@@ -1,3 +1,4 @@
+pub mod TextClones
 pub use Rattle.prettyless_build.specs.Builds
 pub use Rattle.prettyless_build.specs.Iterated
 pub use Rattle.prettyless_doc.specs.BuildErrors

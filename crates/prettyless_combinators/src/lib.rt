@@ -10,12 +10,14 @@ ghost use Rattle.std.specs.Prelude.{◌≡◌, ◌≤◌, ◌-◌, ◌^◌, pos,
 ghost use Rattle.std.specs.Iterator.{IsFiniteIterable};
 
 mod alternatives;
+mod clone_iterators;
 mod sequences;
 mod text_values;
 mod tokens;
 pub mod types;
 mod wrappers;
 
+pub use clone_iterators::{CloneDoubleEndedIterator, CloneIterator};
 use prettyless_doc::text::CowStr;
 use prettyless_model::choice::{ColumnTest, NestingTest};
 use std::fmt;

@@ -1,9 +1,21 @@
-//! Each combinator once, made into a document.
+//! Each combinator once, made into a document; of sequences also a clone.
 use crate::expected::{rows, shows};
 use prettyless::prelude::*;
 use prettyless::text::CowStr;
 use prettyless::{ColumnTest, NestingTest};
 use std::process::Abort;
+
+// Compares what the documents of a clone and of its value are shown as.
+fn both_show<'a, D: DocPlace<'a>, T: Pretty<'a, D> + Clone>(
+    rt: &impl Abort,
+    place: &'a D,
+    value: T,
+    text: &str,
+) {
+    let copy = value.clone().expect(rt, "a value was not cloned");
+    shows(rt, place, copy.pretty(place), text);
+    shows(rt, place, value.pretty(place), text);
+}
 
 pub(crate) fn tokens<'a, D: DocPlace<'a>>(rt: &impl Abort, place: &'a D) {
     rows! { shows, rt, place;
@@ -55,7 +67,10 @@ pub(crate) fn operands<'a, D: DocPlace<'a>, P: Pretty<'a, D> + Copy>(
         flat_alt(a, b).pretty(place) => "FlatOrBreak(\"b\", \"a\")";
         if_column(ColumnTest::IsNesting, a, b).pretty(place) => "OnColumn(IsNesting, \"a\", \"b\")";
         if_nesting(NestingTest::AtLeast(2), a, b).pretty(place) => "OnNesting(AtLeast(2), \"a\", \"b\")";
-        concat(two.iter().copied()).pretty(place) => "[\"a\", \"b\"]";
-        intersperse(space(), two.iter().copied()).pretty(place) => "[\"a\", \" \", \"b\"]";
+    }
+    rows! { both_show, rt, place;
+        concat(two.iter().copied()) => "[\"a\", \"b\"]";
+        concat(two.iter().copied().rev()) => "[\"b\", \"a\"]";
+        intersperse(space(), two.iter().copied()) => "[\"a\", \" \", \"b\"]";
     }
 }

@@ -1,5 +1,4 @@
-//! What is derived of the combinators: tokens are copied, wrappers are cloned but for payloads and sequences, and all are
-//! shown.
+//! Tokens are copied, all other combinators are cloned, and all are shown.
 use crate::expected::{compare, rows, shown};
 use prettyless::combinators::*;
 use prettyless::text::CowStr;
@@ -21,10 +20,11 @@ fn is_cloned<T: Clone + fmt::Debug + Drop>(rt: &impl Abort, memory: Global, valu
     compare(rt, memory, &copy, text);
 }
 
-// Compares the beginning of what a value is shown as.
-fn begins<T: fmt::Debug + Drop>(rt: &impl Abort, memory: Global, value: T, text: &str) {
+// Compares the beginning of what a clone is shown as.
+fn begins<T: Clone + fmt::Debug + Drop>(rt: &impl Abort, memory: Global, value: T, text: &str) {
+    let copy = value.clone().expect(rt, "a value was not cloned");
     assert!(rt;
-        shown(rt, memory, &value).as_str().starts_with(text),
+        shown(rt, memory, &copy).as_str().starts_with(text),
         "{text}"
     );
 }
