@@ -189,3 +189,7 @@ round_over h rises k = record {
       let few = k.few refl (omega (arith, before.0.due, linear.1)) before.0.have in
       omega (arith, few.1, few.2, k.printer, h.printer, room, before.0.probes);
 }
+
+-- the same where so often tables were refused with those before
+pub pays_to_end : {a : Due} {m n : ℕ} {w : Visits} → (n ≡ 0 → m ≡ 0) → PaysToEnd a m w → PaysToEnd a n w
+pays_to_end none h = record { printer = h.printer; few = λ linear now. h.few linear (none now) }

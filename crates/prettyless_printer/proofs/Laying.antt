@@ -1,6 +1,6 @@
 -- A document that is laid as its texts: how its nodes lead on, and how the turn ends.
 use Rattle.std.proofs.Common.{◌≡◌, ◌==◌, ℕ, ℤ, ◌^◌, ◌+◌, ◌≤◌, ◌<◌, ◌&&◌, nat_le, Bool, true, false, List, [], ◌∷◌, ◌++◌, length, refl, ap}
-use Rattle.std.proofs.Common.{sym, ◌∙◌, append-nil, arith, subst, Ok, Err, append_assoc, length-append, reverse}
+use Rattle.std.proofs.Common.{sym, ◌∙◌, append-nil, arith, subst, Ok, Err, append_assoc, length-append, map, max, reverse}
 use Rattle.std.specs.List.{All, sum_by}
 use Rattle.std.proofs.lemmas.List.{length-map, length-reverse, reverse-append}
 use Rattle.std.proofs.lemmas.List.Elements.{All-append, All-cons, All-head, All-nil, All-tail}
@@ -33,7 +33,7 @@ use Rattle.prettyless_printer.specs.Progress.{Inside}
 use Rattle.prettyless_printer.specs.Turns.{Advances, ForWholes}
 use Rattle.prettyless_printer.specs.Visits.{CountsAtMost, Plain, Rise}
 use Rattle.prettyless_printer.specs.AtLeast.{CountsAtLeast, stack_tally, tally_above}
-use Rattle.prettyless_printer.specs.Laying.{Laying, Lays, flat_tasks, laid_to, left_trees, trees_waiting}
+use Rattle.prettyless_printer.specs.Laying.{Laying, laid_to}
 use Rattle.prettyless_printer.specs.CourseOf.{after_all, after_texts}
 use Rattle.prettyless_printer.specs.Spending.{Left, Rule, Spends, left}
 use Rattle.prettyless_printer.specs.declared.answer.TurnResult.TheVariants as turn_result
@@ -44,6 +44,16 @@ use Rattle.prettyless_printer.proofs.Trying.{grows-grows}
 use Rattle.prettyless_printer.proofs.Turnings.{work_falls, sink_error, move_inside}
 use Rattle.prettyless_printer.proofs.Visits.{OneMore, at_most_all, at_most_then, failed_at_most, rise_then, move_at_most}
 use Rattle.prettyless_printer.proofs.AtLeast.{OneLaid, at_least_then, move_at_least}
+
+-- documents at indents, each flat
+abbrev pub flat_tasks : List ℕ → List Tree → List Task
+flat_tasks [] ds = map (make_task 0 Flat) ds
+flat_tasks (i ∷ is) [] = []
+flat_tasks (i ∷ is) (d ∷ ds) = make_task i Flat d ∷ flat_tasks is ds
+
+-- a turn has reached a point with documents above the stack, each flat at some indent
+abbrev pub Lays : Point → List Tree → Point → Type 0
+Lays a ds b = (is : List ℕ) × Laying a (flat_tasks is ds) b
 
 -- ---- One step
 
@@ -619,6 +629,15 @@ left_after {b = b} {w = w} {position = position} q none stands h =
     ∙ h.after
 
 -- ---- Lists of nodes, and memory for them
+
+-- the documents of nodes that are left, the last node first
+abbrev pub left_trees : {N : Type 0} → (N → Tree) → List N → List Tree
+left_trees f ns = reverse (trees f ns)
+
+-- how many nodes wait at most while documents are laid as their texts one after another, each with those after it waiting
+abbrev pub trees_waiting : List Tree → ℕ
+trees_waiting [] = 0
+trees_waiting (d ∷ ds) = max (texts_waiting d (length ds)) (trees_waiting ds)
 
 -- the last node comes first
 pub left_trees-push : {N : Type 0} (f : N → Tree) (ns : List N) (n : N) → left_trees f (ns ++ n ∷ []) ≡ f n ∷ left_trees f ns

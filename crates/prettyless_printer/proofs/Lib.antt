@@ -26,6 +26,7 @@ pub mod Forgetting
 pub mod DueSteps
 pub mod Paying
 pub mod DueQueues
+pub mod TurnSteps
 pub mod DueRounds
 pub mod ShiftSpending
 pub mod Courses

@@ -1,8 +1,9 @@
 -- The course of a run outside of trials and in choices.
-use Rattle.std.proofs.Common.{◌≡◌, ℕ, ◌+◌, ◌<◌, Bool, true, List, [], ◌∷◌, ◌++◌, length, refl, ap, sym, ◌∙◌, arith, subst, inl, inr}
+use Rattle.std.proofs.Common.{◌≡◌, ℕ, ◌<◌, Bool, true, List, [], ◌∷◌, ◌++◌, length, refl, ap, sym, ◌∙◌, arith, subst, inl, inr}
 use Rattle.std.proofs.Common.{Result, Ok, Err}
 use Rattle.std.specs.String.{string_bytes}
 use Rattle.std.proofs.lemmas.Str.{IsUtf8-string_bytes}
+use Rattle.prettyless_sink.specs.Sink.{rise}
 use Rattle.prettyless_sink.specs.declared.error.RenderError.{RenderError}
 use Rattle.prettyless_sink.specs.declared.error.RenderError.TheVariants.{Document, Memory, Sink}
 use Rattle.prettyless_model.specs.declared.options.RenderOptions.{RenderOptions}
@@ -24,6 +25,7 @@ use Rattle.prettyless_printer.specs.Renders.{Begins}
 use Rattle.prettyless_printer.specs.Runs.{InChoice, ReachesWith, RunReaches, RunReachesChoice, Station, station_at, station_of}
 use Rattle.prettyless_printer.specs.Course.{Around, Comes, FlushEnd, GoOverTable, NextFails, RunPlace, RefuseTable, Waiting, place}
 use Rattle.prettyless_printer.specs.CourseOf.{ChoiceCourse, ComesAlone, ComesInChoice, ComesInTrials, ComesToChoice, ComesToStation}
+use Rattle.prettyless_printer.specs.CourseOf.{refused_after}
 use Rattle.prettyless_printer.specs.CourseOf.{EndCourse, EndCourses, EndCourseOrStop, RefusedOnce, RenderCourse, ErrorCourse, FailsIn}
 use Rattle.prettyless_printer.specs.CourseOf.{IsDone, NoneFails}
 use Rattle.prettyless_printer.specs.CourseOf.{TrialGoesOn, StopsWhere, TurnCourse, WaitWith, WaitsInChoice, around, choice_waits, place_at}
@@ -270,17 +272,23 @@ station_ends {o = o} {has = has} {refused} probes z r same h k =
     probes refused r)
     same (k h.waiting refused h.are))
 
--- no table was made, and one was refused or not
-pub station_refuses : {o : RenderOptions} {b : RunPlace} {has : Bool} {room old new : ℕ} {w z : Station} → w ≡ z → RefusedOnce room old new
-    → ComesToStation o b has old z → ComesToStation o b has new w
-station_refuses {o} {b} {has} {new = new} {z = z} same (inl e) h =
-    subst (λ (x : Station). ComesToStation o b has new x) (sym same) (subst (λ (n : ℕ). ComesToStation o b has n z) (sym e) h)
-station_refuses {o} {b} {has} {new = new} {z = z} same (inr e) h =
-    subst (λ (x : Station). ComesToStation o b has new x) (sym same) (record {
+-- one more is one more with those before
+rise_after : (before old new : ℕ) → new ≡ rise old → refused_after before new ≡ rise (refused_after before old)
+rise_after before old new e = omega (arith, e)
+
+-- no table was made, and one was refused or not, whichever were before
+pub station_refuses : {o : RenderOptions} {b : RunPlace} {has : Bool} {room old new : ℕ} {w z : Station} (before : ℕ) → w ≡ z
+    → RefusedOnce room old new
+    → ComesToStation o b has (refused_after before old) z → ComesToStation o b has (refused_after before new) w
+station_refuses {o} {b} {has} {new = new} {z = z} before same (inl e) h =
+    subst (λ (x : Station). ComesToStation o b has (refused_after before new) x) (sym same)
+    (subst (λ (n : ℕ). ComesToStation o b has (refused_after before n) z) (sym e) h)
+station_refuses {o} {b} {has} {old = old} {new} {z = z} before same (inr e) h =
+    subst (λ (x : Station). ComesToStation o b has (refused_after before new) x) (sym same) (record {
       waiting = h.waiting;
       are = h.are;
       comes = come_then h.comes (come_by RefuseTable
-          (λ j. place_at z.point.printer z.point.visits.probes (around h.waiting has (e.1 j))));
+          (λ j. place_at z.point.printer z.point.visits.probes (around h.waiting has (rise_after before old new e.1 j))));
     })
 
 -- it goes on from there, and stops
@@ -299,12 +307,12 @@ pub stops_at_options : {P : RunPlace → Type 0} {o o' : RenderOptions} {a : Run
 stops_at_options same h =
     record { at = h.at; comes = comes_at same h.comes; there = h.there; read = h.read; refusals = h.refusals }
 
--- a run begins before a document
-pub begun_course : {A E : Type 0} (has : Bool) {o : RenderOptions} {d : Tree} {p : Standing} {k : ℕ} (v w : RenderCost)
-    (r : Result A (RenderError E)) → Begins o d p → k ≡ v.visits.probes
-    → EndCourse p.options (place_at p k (around [] has v.refused)) w.visits.probes w.refused r → RenderCourse has o d v w r
-begun_course has {d = d} {p = p} {k} v w r begins same h =
+-- a run begins before a document, after renders that were refused tables
+pub begun_course : {A E : Type 0} (has : Bool) {o : RenderOptions} {d : Tree} {p : Standing} {k old : ℕ} (v w : RenderCost)
+    (r : Result A (RenderError E)) → Begins o d p → k ≡ v.visits.probes → old ≡ v.refused
+    → EndCourse p.options (place_at p k (around [] has old)) w.visits.probes w.refused r → RenderCourse has o d v w r
+begun_course has {d = d} {p = p} {k} {old} v w r begins same refused h =
     subst (λ (x : RenderOptions). EndCourse x (place (make_task 0 Break d ∷ []) initial v.visits.probes (around [] has v.refused))
     w.visits.probes w.refused r) begins.options
     (subst (λ (x : RunPlace). EndCourse p.options x w.visits.probes w.refused r)
-    (λ j. place (begins.tasks j) (begins.state j) (same j) (around [] has v.refused)) h)
+    (λ j. place (begins.tasks j) (begins.state j) (same j) (around [] has (refused j))) h)

@@ -5,6 +5,7 @@ use Rattle.prettyless_sink.specs.Sink.{rise}
 use Rattle.prettyless_sink.specs.declared.visits.RenderCost.{RenderCost}
 use Rattle.prettyless_sink.specs.declared.error.RenderError.{RenderError}
 use Rattle.prettyless_sink.specs.declared.error.RenderError.TheVariants.{Document, Sink, Memory}
+use Rattle.prettyless_model.specs.Column.{saturating_add}
 use Rattle.prettyless_model.specs.Tree.{Tree, Append, BreakOrFlat, Group, Nest, Text}
 use Rattle.prettyless_model.specs.Counts.{each_probe}
 use Rattle.prettyless_model.specs.Layout.{Outcome, Done, Failed, State, initial, lay_text}
@@ -236,6 +237,10 @@ abbrev pub EndCourses : {A E : Type 0} → Bool → Station → ℕ → Result A
 EndCourses has z probes r =
     (ws : List Waiting) (refused : ℕ) → WaitWith z.held z ws →
     EndCourse z.point.printer.options (place_at z.point.printer z.point.visits.probes (around ws has refused)) probes refused r
+
+-- how many tables were refused, with those before, in a count that stays at its greatest value
+abbrev pub refused_after : ℕ → ℕ → ℕ
+refused_after before refused = saturating_add before refused
 
 -- a table was refused, of a size for which there was room, or none was
 abbrev pub RefusedOnce : ℕ → ℕ → ℕ → Type 0

@@ -1,13 +1,10 @@
 -- A document that is laid as its texts, in one turn: what holds from where the turn began to where it is.
-use Rattle.std.specs.Prelude.{◌≡◌, ℕ, ◌+◌, ◌<◌, ◌≤◌, max, ◌&&◌, nat_le, Bool, true, false, List, [], ◌∷◌, ◌++◌, length, map, reverse}
+use Rattle.std.specs.Prelude.{◌≡◌, ℕ, ◌+◌, ◌<◌, ◌≤◌, ◌&&◌, nat_le, Bool, true, false, List, [], ◌++◌, length}
 use Rattle.std.specs.Prelude.{Result, Ok, Err}
 use Rattle.prettyless_sink.specs.Sink.{IfKnown, rise}
 use Rattle.prettyless_sink.specs.declared.error.RenderError.{RenderError}
 use Rattle.prettyless_sink.specs.declared.error.RenderError.TheVariants.{Sink}
-use Rattle.prettyless_model.specs.Tree.{Tree}
-use Rattle.prettyless_model.specs.declared.mode.Mode.TheVariants.{Flat}
-use Rattle.prettyless_probe.specs.Stack.{Task, make_task, nodes, trees}
-use Rattle.prettyless_probe.specs.Texts.{texts_waiting}
+use Rattle.prettyless_probe.specs.Stack.{Task, nodes}
 use Rattle.prettyless_step.specs.Steps.{work}
 use Rattle.prettyless_printer.specs.Points.{QueueGrows, Point, Standing, state_at, work_at}
 use Rattle.prettyless_printer.specs.Progress.{Inside}
@@ -30,10 +27,11 @@ pub record Laying (a : Point) (us : List Task) (b : Point) : Type 0 where
   pub less : work (us ++ b.printer.tasks) (state_at b.printer) < work_at a
   -- where the sink's bytes are known, they go on in every whole that the work was inside of
   pub bytes : IfKnown a.sink.bytes b.sink.bytes (λ out new.
-      ForWholes a.printer out (λ whole limit below old. Inside a.printer.options whole limit below old (us ++ b.printer.tasks)
-      (state_at b.printer) new)
+      ForWholes a.printer out (λ whole limit below old. Inside a.printer.options whole limit below old
+      (us ++ b.printer.tasks) (state_at b.printer) new)
       × (b.sink.failures ≡ a.sink.failures))
-  -- a node was visited, no count fell, and the next task's document has a node for each visit of the printer and each that is left of it
+  -- a node was visited, no count fell, and the next task's document has a node for each visit of the printer and each
+  -- that is left of it
   pub least : rise a.visits.printer ≤ b.visits.printer
   pub rise : Rise a.visits b.visits
   pub most : b.visits.printer + nodes us ≤ a.visits.printer + next_size a.printer.tasks
@@ -42,22 +40,13 @@ pub record Laying (a : Point) (us : List Task) (b : Point) : Type 0 where
       × CountsAtMost a.printer.tasks (us ++ b.printer.tasks) a.visits b.visits
   -- what was laid is counted
   pub at_least : (n : ℕ) → n < length a.printer.tasks →
-      CountsAtLeast (stack_tally a.printer n) (tally_above a.printer.options n (us ++ b.printer.tasks) (state_at b.printer))
-      a.visits b.visits
+      CountsAtLeast (stack_tally a.printer n)
+      (tally_above a.printer.options n (us ++ b.printer.tasks) (state_at b.printer)) a.visits b.visits
 
 -- how a turn ends whose document was laid as its texts
 abbrev pub ends_turn : {N A E : Type 0} → Result A E → Result (TurnResult N) (RenderError E)
 ends_turn (Ok r) = Ok Complete
 ends_turn (Err e) = Err (Sink e)
-
--- the documents of nodes that are left, the last node first
-abbrev pub left_trees : {N : Type 0} → (N → Tree) → List N → List Tree
-left_trees f ns = reverse (trees f ns)
-
--- how many nodes wait at most while documents are laid as their texts one after another, each with those after it waiting
-abbrev pub trees_waiting : List Tree → ℕ
-trees_waiting [] = 0
-trees_waiting (d ∷ ds) = max (texts_waiting d (length ds)) (trees_waiting ds)
 
 -- where a printer stands once texts were laid up to a position, if one of them was not empty
 abbrev pub laid_to : Standing → Bool → ℕ → Standing
@@ -66,13 +55,3 @@ laid_to p true position = record p {
   column = record { position = position; indent = 0; padding = 0; fresh = false };
   within = p.within && nat_le position p.options.width;
 }
-
--- documents at indents, each flat
-abbrev pub flat_tasks : List ℕ → List Tree → List Task
-flat_tasks [] ds = map (make_task 0 Flat) ds
-flat_tasks (i ∷ is) [] = []
-flat_tasks (i ∷ is) (d ∷ ds) = make_task i Flat d ∷ flat_tasks is ds
-
--- a turn has reached a point with documents above the stack, each flat at some indent
-abbrev pub Lays : Point → List Tree → Point → Type 0
-Lays a ds b = (is : List ℕ) × Laying a (flat_tasks is ds) b

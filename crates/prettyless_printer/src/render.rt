@@ -21,6 +21,7 @@ use prettyless_sink::render::Render;
 use prettyless_sink::visits::{RenderCost, Visits};
 use prettyless_step::printer::Printer;
 use prettyless_step::queue::Queue;
+use prettyless_table::refusal::Refusals;
 use std::alloc::{AllocError, Global};
 
 // A run before a document, with the visits before it.
@@ -73,11 +74,11 @@ fn render_with_room<N: Walk, W: Render>(
 {
     match run_before(alloc, node, options, cost.visits) {
         Ok(mut run) => {
-            let mut refused = cost.refused;
+            let mut refused = Refusals::none();
             let result = run.run_with_shift(out, room, &mut refused);
             *cost = RenderCost {
                 visits: run.visits,
-                refused,
+                refused: cost.refused.saturating_add(refused.total()),
             };
             result
         }

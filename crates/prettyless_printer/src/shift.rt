@@ -1,6 +1,6 @@
 //! The shift: what a run has left is stored in a table, and the run goes on over that.
 //! It knows runs, trials and tables, and takes no turns.
-ghost use Rattle.std.specs.Prelude.{◌≡◌, ◌<◌, ◌≤◌, ◌+◌, ◌++◌, IfNone, IfOk, IfSome, MatchOption, OnErr, [], length, min};
+ghost use Rattle.std.specs.Prelude.{◌≡◌, ℕ, ◌<◌, ◌≤◌, ◌+◌, ◌++◌, IfNone, IfOk, IfSome, MatchOption, OnErr, [], length, min};
 ghost use Rattle.prettyless_step.specs.Printing.{tasks_of};
 ghost use Rattle.prettyless_probe.specs.Stack.{nodes, trees};
 ghost use Rattle.prettyless_probe.specs.Sums.{IsSummed};
@@ -14,7 +14,7 @@ ghost use Rattle.prettyless_printer.specs.Runs.{RunReaches, station_of};
 ghost use Rattle.prettyless_printer.specs.ShiftPolicy.{probe_factor, probe_grace};
 ghost use Rattle.prettyless_printer.specs.Linear.{IsLinearBound, IsLinearStart};
 ghost use Rattle.prettyless_printer.specs.Spending.{EndsOverTable, left_of};
-ghost use Rattle.prettyless_printer.specs.CourseOf.{EndCourse, EndCourses, RefusedOnce, around, place_at};
+ghost use Rattle.prettyless_printer.specs.CourseOf.{EndCourse, EndCourses, RefusedOnce, around, place_at, refused_after};
 ghost use Rattle.prettyless_printer.specs.Due.{PaysOverTable, PaysToEnd, due_of, unions_due};
 
 use crate::answer::RunResult;
@@ -22,12 +22,12 @@ use crate::buffer::Buffer;
 use crate::run::Run;
 use crate::shift_policy::ShiftPolicy;
 use crate::trial::{OpenTrial, Trials};
-use prettyless_model::count::one_more;
 use prettyless_probe::walk::Walk;
 use prettyless_sink::error::RenderError;
 use prettyless_sink::render::Render;
+use prettyless_table::refusal::{Refusals, TableRefused, push};
 use prettyless_table::{MOST_CELLS, Placed, Table, count, count_left, placed_printer, store_all};
-use std::alloc::{AllocError, Global};
+use std::alloc::Global;
 use std::mem::replace;
 
 // Adds the second branches of open trials to a table that has the cells of their nodes, and answers their places, the outermost first.
@@ -36,7 +36,7 @@ fn store_seconds<N: Walk>(
     trials: &Trials<N>,
     table: &mut Table<N>,
     waiting: &mut Vec<u32>,
-) -> Result<Vec<u32>, AllocError>
+) -> Result<Vec<u32>, TableRefused>
     requires sound { CellsAreSound N.tree table.old.cells.items }
     requires room { length table.old.cells.items + length trials.now.open.items ≤ 4294967294 }
     requires stand { Stand table.old.cells.items (seconds (all_held N.tree trials.now.open.items)) waiting.old.items }
@@ -47,7 +47,7 @@ fn store_seconds<N: Walk>(
     let mut places = Vec::new(alloc);
     let mut k = 0;
     'trials: while k < trials.open.len() {
-        places.push(table.add(trials.open[k].second, waiting)?)?;
+        push(&mut places, table.add(trials.open[k].second, waiting)?)?;
         k += 1;
     }
     Ok(places)
@@ -59,7 +59,7 @@ fn placed_trials<'t, N: Walk>(
     trials: &Trials<N>,
     table: &'t Table<N>,
     places: &[u32],
-) -> Result<Trials<Placed<'t, N>>, AllocError>
+) -> Result<Trials<Placed<'t, N>>, TableRefused>
     requires sound { CellsAreSound N.tree table.now.cells.items }
     requires laid { AreNodes N.tree table.now.cells.items places.now (seconds (all_held N.tree trials.now.open.items)) }
     ensures { IfOk result (λ t. all_held ⟦<Placed<'t, N> as Walk>⟧.tree t.open.items ≡ all_held N.tree trials.now.open.items) }
@@ -68,11 +68,12 @@ fn placed_trials<'t, N: Walk>(
     let mut k = 0;
     'trials: while k < trials.open.len() {
         let trial = &trials.open[k];
-        placed.open.push(OpenTrial {
+        let over_table = OpenTrial {
             mark: trial.mark,
             indent: trial.indent,
             second: table.node(places[k]),
-        })?;
+        };
+        push(&mut placed.open, over_table)?;
         k += 1;
     }
     Ok(placed)
@@ -81,7 +82,7 @@ fn placed_trials<'t, N: Walk>(
 impl<N: Walk> Run<N> {
     // How many nodes are left, with the second branches of open trials; those that take cells are listed after `owners`. `None` is
     // answered where there are more than `most`: so nothing is stored in vain, and the table asks for its memory once.
-    fn count_all(&self, owners: &mut Vec<N>, most: usize) -> Result<Option<usize>, AllocError>
+    fn count_all(&self, owners: &mut Vec<N>, most: usize) -> Result<Option<usize>, TableRefused>
         ensures counted { IfOk result (λ o. MatchOption o (most < run_nodes N.tree self.now)
             (λ n. (n ≡ run_nodes N.tree self.now) × (n ≤ most))) }
         ensures listed { IfOk result (λ o. IfSome o (λ _. trees N.tree owners.new.items
@@ -110,7 +111,7 @@ impl<N: Walk> Run<N> {
         &mut self,
         out: &mut W,
         room: u64,
-    ) -> Result<Option<Result<(), RenderError<W::Error>>>, AllocError>
+    ) -> Result<Option<Result<(), RenderError<W::Error>>>, TableRefused>
         requires comes { (a : Point) × RunReaches a (station_of N.tree self.old (seen_by W.Render out.old)) }
         ensures ended { IfOk result (λ o. IfSome o (λ r. (a : Point) → RunReaches a (station_of N.tree self.old (seen_by W.Render out.old))
             → EndsOverTable (W.document_errors out.new) a (left_of N.tree self.old) (seen_by W.Render out.new) self.new.visits r)) }
@@ -151,7 +152,7 @@ impl<N: Walk> Run<N> {
         &mut self,
         out: &mut W,
         room: u64,
-        refused: &mut u64,
+        refused: &mut Refusals,
     ) -> Option<Result<(), RenderError<W::Error>>>
         requires comes { (a : Point) × RunReaches a (station_of N.tree self.old (seen_by W.Render out.old)) }
         ensures ended { IfSome result (λ r. (a : Point) → RunReaches a (station_of N.tree self.old (seen_by W.Render out.old))
@@ -171,8 +172,8 @@ impl<N: Walk> Run<N> {
         match self.shift(out, room) {
             Ok(Some(ended)) => Some(ended),
             Ok(None) => None,
-            Err(_) => {
-                *refused = one_more(*refused);
+            Err(refusal) => {
+                refused.count(refusal);
                 None
             }
         }
@@ -184,15 +185,16 @@ impl<N: Walk> Run<N> {
         &mut self,
         out: &mut W,
         room_at_first: u64,
-        refused: &mut u64,
+        refused: &mut Refusals,
     ) -> Result<(), RenderError<W::Error>>
         requires none { self.old.trials.open.items ≡ [] }
         requires summed { IsSummed N.HAS_SUMMARIES N.tree self.old.printer.commands }
         ensures ends { EndsAnywhere (W.document_errors out.new) (point_of N.tree self.old (seen_by W.Render out.old))
             (seen_by W.Render out.new) self.new.visits result }
-        ensures course { EndCourse self.old.printer.options
-            (place_at (standing N.tree self.old.printer) self.old.visits.probes (around [] N.HAS_SUMMARIES refused.old))
-            self.new.visits.probes refused.new result }
+        ensures course { (before : ℕ) → EndCourse self.old.printer.options
+            (place_at (standing N.tree self.old.printer) self.old.visits.probes
+            (around [] N.HAS_SUMMARIES (refused_after before refused.old)))
+            self.new.visits.probes (refused_after before refused.new) result }
         ensures rises { refused.old ≤ refused.new }
         ensures few { IsLinearStart (standing N.tree self.old.printer) → refused.new ≡ 0
             → IsLinearBound probe_factor probe_grace (nodes (tasks_of N.tree self.old.printer)) self.old.visits self.new.visits }

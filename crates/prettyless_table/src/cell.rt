@@ -5,11 +5,12 @@ ghost use Rattle.prettyless_table.specs.Cells.{KeepsBoth, second_of};
 ghost use Rattle.prettyless_summary.specs.Known.{IsKnown};
 ghost use Rattle.prettyless_table.specs.Sums.{AreDocumentSums};
 
+use crate::refusal::{TableRefused, refused};
 use crate::sums::{Counts, Sums, in_mode, is_narrow, kept, packed};
 use prettyless_model::mode::Mode;
 use prettyless_probe::walk::Walk;
 use prettyless_summary::known::Known;
-use std::alloc::{AllocError, Global};
+use std::alloc::Global;
 
 /// A cell of a table: the summaries of a node, or a document that was stored.
 #[derive(Drop)]
@@ -31,12 +32,12 @@ pub enum Cell<N> {
 impl<N: Walk> Cell<N> {
     /// The cell of a node with these summaries, whose second part is at a place. A wide one takes memory, which may be refused.
     #[inline(always)]
-    pub fn of_sums(alloc: Global, sums: Sums, second: u32) -> Result<Self, AllocError>
+    pub fn of_sums(alloc: Global, sums: Sums, second: u32) -> Result<Self, TableRefused>
         ensures keeps { IfOk result (λ cell. (d : Tree) → AreDocumentSums sums d → KeepsBoth cell d) }
         ensures second { IfOk result (λ cell. second_of cell ≡ second) }
     {
         if !is_narrow(sums.flat) || !is_narrow(sums.broken) {
-            return Ok(Cell::Wide(second, Box::new(alloc, sums)?));
+            return Ok(Cell::Wide(second, Box::new(alloc, sums).map_err(refused)?));
         }
         let (flat_marks, flat) = packed(sums.flat);
         let (broken_marks, broken) = packed(sums.broken);

@@ -9,10 +9,11 @@ ghost use Rattle.prettyless_table.specs.Parts.{small, tiny};
 ghost use Rattle.prettyless_table.specs.Shift.{nodes_left};
 
 use crate::below::{Parts, is_small, parts_below, takes_cell};
+use crate::refusal::{TableRefused, push};
 use prettyless_probe::stack::Stack;
 use prettyless_probe::walk::Walk;
 use prettyless_step::printer::Printer;
-use std::alloc::{AllocError, Global};
+use std::alloc::Global;
 
 // How many nodes a tiny document has.
 #[inline(always)]
@@ -43,12 +44,12 @@ fn count_small<N: Walk>(node: &N) -> usize
 
 // Lists a node, if it takes a cell.
 #[inline(always)]
-fn list_own<N: Walk>(node: N, owners: &mut Vec<N>) -> Result<(), AllocError>
+fn list_own<N: Walk>(node: N, owners: &mut Vec<N>) -> Result<(), TableRefused>
     ensures { OnOk result ((rest : List Tree) → trees N.tree owners.new.items ++ rest
         ≡ trees N.tree owners.old.items ++ with_own (N.tree node) rest) }
 {
     if takes_cell(&node) {
-        owners.push(node)?;
+        push(owners, node)?;
     }
     Ok(())
 }
@@ -60,7 +61,7 @@ fn count_down<N: Walk>(
     room: usize,
     owners: &mut Vec<N>,
     waiting: &mut Vec<N>,
-) -> Result<Option<usize>, AllocError>
+) -> Result<Option<usize>, TableRefused>
     ensures counted { IfOk result (λ o. MatchOption o
         (room < sum_by (λ n. size (N.tree n)) waiting.old.items + size (N.tree node))
         (λ left. (left + size (N.tree node) + sum_by (λ n. size (N.tree n)) waiting.old.items
@@ -82,7 +83,7 @@ fn count_down<N: Walk>(
                     return Ok(None);
                 }
                 if at_once == 0 {
-                    waiting.push(second)?;
+                    push(waiting, second)?;
                 }
                 left -= at_once;
                 next = first;
@@ -99,7 +100,7 @@ fn count_one<N: Walk>(
     room: usize,
     owners: &mut Vec<N>,
     waiting: &mut Vec<N>,
-) -> Result<Option<usize>, AllocError>
+) -> Result<Option<usize>, TableRefused>
     ensures counted { IfOk result (λ o. MatchOption o
         (room < size (N.tree root))
         (λ left. left + size (N.tree root) ≡ room)) }
@@ -107,7 +108,7 @@ fn count_one<N: Walk>(
         ≡ trees N.tree owners.old.items ++ owners_of (N.tree root))) }
 {
     waiting.clear();
-    waiting.push(root)?;
+    push(waiting, root)?;
     let mut left = room;
     'waiting: while let Some(next) = waiting.pop() {
         match count_down(next, left, owners, waiting)? {
@@ -124,7 +125,7 @@ fn count_commands<N: Walk>(
     room: usize,
     owners: &mut Vec<N>,
     waiting: &mut Vec<N>,
-) -> Result<Option<usize>, AllocError>
+) -> Result<Option<usize>, TableRefused>
     ensures counted { IfOk result (λ o. MatchOption o
         (room < nodes (stack_of N.tree commands.now))
         (λ left. left + nodes (stack_of N.tree commands.now) ≡ room)) }
@@ -148,7 +149,7 @@ fn count_roots<N: Walk>(
     room: usize,
     owners: &mut Vec<N>,
     waiting: &mut Vec<N>,
-) -> Result<Option<usize>, AllocError>
+) -> Result<Option<usize>, TableRefused>
     ensures counted { IfOk result (λ o. MatchOption o
         (room < sum_by (λ n. size (N.tree n)) roots.now)
         (λ left. left + sum_by (λ n. size (N.tree n)) roots.now ≡ room)) }
@@ -176,7 +177,7 @@ pub fn count<N: Walk>(
     root: N,
     owners: &mut Vec<N>,
     most: usize,
-) -> Result<Option<usize>, AllocError>
+) -> Result<Option<usize>, TableRefused>
     ensures counted { IfOk result (λ o. MatchOption o
         (most < size (N.tree root))
         (λ n. (n ≡ size (N.tree root)) × (n ≤ most))) }
@@ -199,7 +200,7 @@ pub fn count_left<N: Walk>(
     printer: &Printer<N>,
     owners: &mut Vec<N>,
     most: usize,
-) -> Result<Option<usize>, AllocError>
+) -> Result<Option<usize>, TableRefused>
     ensures counted { IfOk result (λ o. MatchOption o
         (most < nodes_left N.tree printer.now)
         (λ n. (n ≡ nodes_left N.tree printer.now) × (n ≤ most))) }

@@ -9,6 +9,7 @@ mod below;
 mod cell;
 mod counting;
 mod placed;
+pub mod refusal;
 mod shift;
 mod sums;
 mod table;

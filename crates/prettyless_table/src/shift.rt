@@ -10,13 +10,14 @@ ghost use Rattle.prettyless_table.specs.Owners.{Stand, documents_left, task_tree
 ghost use Rattle.prettyless_table.specs.Shift.{AreCommands, AreNodes, IsInTable, IsShifted};
 
 use crate::placed::Placed;
+use crate::refusal::{TableRefused, push, refused};
 use crate::table::{MOST_CELLS, Table};
 use prettyless_probe::command::Command;
 use prettyless_probe::stack::Stack;
 use prettyless_probe::walk::Walk;
 use prettyless_step::printer::Printer;
 use prettyless_step::queue::Queue;
-use std::alloc::{AllocError, Global};
+use std::alloc::Global;
 
 /// Where all that a printer has left stands in a table: its commands, the next one first, and its queue, the oldest suffix first.
 #[derive(Drop)]
@@ -31,7 +32,7 @@ fn store_commands<N: Walk>(
     commands: &Stack<N>,
     table: &mut Table<N>,
     waiting: &mut Vec<u32>,
-) -> Result<Vec<Command<u32>>, AllocError>
+) -> Result<Vec<Command<u32>>, TableRefused>
     requires sound { CellsAreSound N.tree table.old.cells.items }
     requires room { length table.old.cells.items + length (stack_of N.tree commands.now) ≤ MOST_CELLS }
     requires stand { (later : List Tree)
@@ -48,11 +49,12 @@ fn store_commands<N: Walk>(
     let mut below = commands.cursor();
     'commands: while let Some(command) = commands.read_down(&mut below) {
         let node = table.add(command.node, waiting)?;
-        places.push(Command {
+        let placed = Command {
             indent: command.indent,
             mode: command.mode,
             node,
-        })?;
+        };
+        push(&mut places, placed)?;
     }
     Ok(places)
 }
@@ -63,7 +65,7 @@ fn store_nodes<N: Walk>(
     roots: &[N],
     table: &mut Table<N>,
     waiting: &mut Vec<u32>,
-) -> Result<Vec<u32>, AllocError>
+) -> Result<Vec<u32>, TableRefused>
     requires sound { CellsAreSound N.tree table.old.cells.items }
     requires room { length table.old.cells.items + length roots.now ≤ MOST_CELLS }
     requires stand { (later : List Tree) × Stand table.old.cells.items (trees N.tree roots.now ++ later) waiting.old.items }
@@ -77,7 +79,7 @@ fn store_nodes<N: Walk>(
     let mut places = Vec::new(alloc);
     let mut k = 0;
     'roots: while k < roots.len() {
-        places.push(table.add(roots[k], waiting)?)?;
+        push(&mut places, table.add(roots[k], waiting)?)?;
         k += 1;
     }
     Ok(places)
@@ -91,7 +93,7 @@ pub fn store_all<N: Walk>(
     printer: &Printer<N>,
     table: &mut Table<N>,
     waiting: &mut Vec<u32>,
-) -> Result<Places, AllocError>
+) -> Result<Places, TableRefused>
     requires sound { CellsAreSound N.tree table.old.cells.items }
     requires room { length table.old.cells.items + length (documents_left N.tree printer.now) ≤ MOST_CELLS }
     requires stand { (later : List Tree) × Stand table.old.cells.items (documents_left N.tree printer.now ++ later) waiting.old.items }
@@ -114,7 +116,7 @@ fn placed_commands<'t, N: Walk>(
     alloc: Global,
     table: &'t Table<N>,
     places: &[Command<u32>],
-) -> Result<Stack<Placed<'t, N>>, AllocError>
+) -> Result<Stack<Placed<'t, N>>, TableRefused>
     requires sound { CellsAreSound N.tree table.now.cells.items }
     requires within { All (λ c. IsRoot table.now.cells.items c.node) places.now }
     ensures tasks { IfOk result (λ s. stack_of ⟦<Placed<'t, N> as Walk>⟧.tree s
@@ -126,7 +128,10 @@ fn placed_commands<'t, N: Walk>(
     'places: while k > 0 {
         k -= 1;
         let command = places[k];
-        commands.push(command.indent, command.mode, table.node(command.node))?;
+        let node = table.node(command.node);
+        if let Err(e) = commands.push(command.indent, command.mode, node) {
+            return Err(refused(e));
+        }
     }
     Ok(commands)
 }
@@ -137,7 +142,7 @@ fn placed_queue<'t, N: Walk>(
     table: &'t Table<N>,
     places: &[u32],
     queue: &Queue<N>,
-) -> Result<Queue<Placed<'t, N>>, AllocError>
+) -> Result<Queue<Placed<'t, N>>, TableRefused>
     requires sound { CellsAreSound N.tree table.now.cells.items }
     requires nodes { AreNodes N.tree table.now.cells.items places.now (trees N.tree queue.now.nodes.items) }
     ensures nodes { IfOk result (λ q. trees ⟦<Placed<'t, N> as Walk>⟧.tree q.nodes.items ≡ trees N.tree queue.now.nodes.items) }
@@ -146,7 +151,9 @@ fn placed_queue<'t, N: Walk>(
     let mut placed = Queue::new(alloc);
     let mut k = 0;
     'places: while k < places.len() {
-        placed.push(table.node(places[k]))?;
+        if let Err(e) = placed.push(table.node(places[k])) {
+            return Err(refused(e));
+        }
         k += 1;
     }
     placed.rewind(queue.mark());
@@ -161,7 +168,7 @@ pub fn placed_printer<'t, N: Walk>(
     printer: &Printer<N>,
     table: &'t Table<N>,
     places: &Places,
-) -> Result<Printer<Placed<'t, N>>, AllocError>
+) -> Result<Printer<Placed<'t, N>>, TableRefused>
     requires sound { CellsAreSound N.tree table.now.cells.items }
     requires stored { IsInTable N.tree table.now.cells.items printer.now places.now }
     ensures shifted { IfOk result (λ p. IsShifted N.tree ⟦<Placed<'t, N> as Walk>⟧.tree printer.now p) }

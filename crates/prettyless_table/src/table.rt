@@ -7,11 +7,12 @@ ghost use Rattle.prettyless_table.specs.Parts.{parts_of};
 
 use crate::below::{Parts, is_small, parts_below};
 use crate::cell::Cell;
+use crate::refusal::{TableRefused, push, refused};
 use crate::sums::{Sums, in_mode, leaf_sums, of_pair, of_single, small_sums};
 use prettyless_model::mode::Mode;
 use prettyless_probe::walk::{View, Walk};
 use prettyless_summary::known::Known;
-use std::alloc::{AllocError, Global};
+use std::alloc::Global;
 
 /// How many cells a table has at most: the place of each fits 32 bits, and so does the number after it.
 pub const MOST_CELLS: usize = 4_294_967_294;
@@ -52,13 +53,13 @@ impl<N: Walk> Table<N> {
     ghost use Rattle.prettyless_table.specs.Owners.{AreFound, WaitsInTable, all_owners, keepers};
 
     /// A table without documents, with memory for so many cells. It fails where that memory is refused.
-    pub fn with_room(alloc: Global, nodes: usize) -> Result<Self, AllocError>
+    pub fn with_room(alloc: Global, nodes: usize) -> Result<Self, TableRefused>
         ensures empty { IfOk result (λ t. t.cells.items ≡ []) }
         ensures sound { IfOk result (λ t. CellsAreSound N.tree t.cells.items) }
         ensures room { IfOk result (λ t. nodes ≤ t.cells.cap) }
     {
         Ok(Table {
-            cells: Vec::with_capacity(alloc, nodes)?,
+            cells: Vec::with_capacity(alloc, nodes).map_err(refused)?,
         })
     }
 
@@ -146,7 +147,7 @@ impl<N: Walk> Table<N> {
     // The place of the second part of a node, whose parts stand in the table. Of documents that wait in the table the last one has the
     // last cell, and `waiting` has the places of all others. Where the node has none of them below it, the last one goes on waiting.
     #[inline(always)]
-    fn second_place(&self, node: &N, waiting: &mut Vec<u32>) -> Result<u32, AllocError>
+    fn second_place(&self, node: &N, waiting: &mut Vec<u32>) -> Result<u32, TableRefused>
         requires { length self.now.cells.items ≤ MOST_CELLS }
         ensures { IfOk result (λ second. (ds : List Tree)
             → WaitsInTable self.now.cells.items (keepers (parts_of (N.tree node.now)) ++ ds) (reverse waiting.old.items)
@@ -166,7 +167,7 @@ impl<N: Walk> Table<N> {
                 (false, false) => return Ok(take_place(waiting)),
             },
         }
-        waiting.push(self.last())?;
+        push(waiting, self.last())?;
         Ok(0)
     }
 
@@ -174,7 +175,7 @@ impl<N: Walk> Table<N> {
     /// the first one last.
     ///
     /// It fails where memory is refused. The cells that the table had stay then, and others may follow them.
-    pub fn fill(&mut self, alloc: Global, owners: Vec<N>) -> Result<Vec<u32>, AllocError>
+    pub fn fill(&mut self, alloc: Global, owners: Vec<N>) -> Result<Vec<u32>, TableRefused>
         requires room { length self.old.cells.items + length owners.items ≤ MOST_CELLS }
         requires listed { (ds : List Tree) × (map N.tree owners.items ≡ all_owners ds) }
         ensures grows { CellsGrow N.tree self.old.cells.items self.new.cells.items }
@@ -190,9 +191,9 @@ impl<N: Walk> Table<N> {
             let second = self.second_place(&node, &mut waiting)?;
             let sums = self.node_sums(&node, second);
             let cell = Cell::of_sums(alloc, sums, second)?;
-            self.cells.push(cell)?;
+            push(&mut self.cells, cell)?;
         }
-        waiting.push(self.last())?;
+        push(&mut waiting, self.last())?;
         Ok(waiting)
     }
 
@@ -200,7 +201,7 @@ impl<N: Walk> Table<N> {
     /// small.
     ///
     /// It fails where memory is refused: the cells that the table had stay then.
-    pub fn add(&mut self, root: N, waiting: &mut Vec<u32>) -> Result<u32, AllocError>
+    pub fn add(&mut self, root: N, waiting: &mut Vec<u32>) -> Result<u32, TableRefused>
         requires sound { CellsAreSound N.tree self.old.cells.items }
         requires room { length self.old.cells.items < MOST_CELLS }
         requires stands { (later : List Tree) × Stand self.old.cells.items (N.tree root ∷ later) waiting.old.items }
@@ -212,7 +213,7 @@ impl<N: Walk> Table<N> {
             → Stand self.new.cells.items later waiting.new.items) }
     {
         let place = place_of(&root, waiting);
-        self.cells.push(Cell::Root(place, root))?;
+        push(&mut self.cells, Cell::Root(place, root))?;
         Ok(self.last())
     }
 }

@@ -5,7 +5,8 @@ use Rattle.prettyless_sink.specs.declared.visits.Visits.{Visits}
 use Rattle.prettyless_model.specs.Tree.{Tree}
 use Rattle.prettyless_step.specs.declared.printer.Printer.{Printer}
 use Rattle.prettyless_printer.specs.Points.{point, seen, standing}
-use Rattle.prettyless_printer.specs.Laying.{laid_to, left_trees, trees_waiting}
+use Rattle.prettyless_printer.specs.Laying.{laid_to}
+use Rattle.prettyless_printer.proofs.Laying.{left_trees, trees_waiting}
 use Rattle.prettyless_printer.proofs.Laying.{Laid, OneNode, TextFails, left_after, left_at, left_begins, left_done, left_instead}
 use Rattle.prettyless_printer.proofs.Laying.{append_gives_way, either_gives_way, empty_gives_way}
 use Rattle.prettyless_printer.proofs.Laying.{nil_gives_way, of_kind, one_gives_way, room_one, left_text, left_text_failed, left_trees-push}

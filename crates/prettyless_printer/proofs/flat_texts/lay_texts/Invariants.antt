@@ -2,7 +2,7 @@ use Rattle.std.proofs.Common.{◌≡◌, ◌+◌, ◌≤◌, ◌∷◌, vec_capa
 use Rattle.std.specs.List.{sum_by}
 use Rattle.prettyless_model.specs.Tree.{size}
 use Rattle.prettyless_printer.specs.Points.{point, seen}
-use Rattle.prettyless_printer.specs.Laying.{left_trees, trees_waiting}
+use Rattle.prettyless_printer.proofs.Laying.{left_trees, trees_waiting}
 use Rattle.prettyless_printer.proofs.Laying.{Laid}
 use Rattle.prettyless_printer.proofs.flat_texts.lay_texts.Given as goal
 

@@ -11,7 +11,7 @@ pub waiting-init : goal.waiting-init
 waiting-init g c =
     let f = g.N.Walk.tree in
     let old = trees f c.args.owners.now.items in
-    let items : c.push.new.self.items ≡ c.args.root ∷ [] =
+    let items : c.push.new.list.items ≡ c.args.root ∷ [] =
     c.in_ok-push.ensures.items ∙ ap (λ ns. ns ++ c.args.root ∷ []) c.clear.ensures.items in
     record {
       counted = omega (arith, ap (sum_by (λ n. size (f n))) items, sum_by-cons (λ n. size (f n)) c.args.root []);

@@ -9,7 +9,7 @@ use Rattle.prettyless_printer.specs.declared.shift_policy.ShiftPolicy.{ShiftPoli
 use Rattle.prettyless_printer.specs.ShiftPolicy.{probe_limit}
 use Rattle.prettyless_printer.specs.Spending.{Spends, left_of, none_left, rule_of}
 use Rattle.prettyless_printer.proofs.Shifts.{error_anyhow, done_anyhow}
-use Rattle.prettyless_printer.specs.CourseOf.{EndCourse, around, place_at}
+use Rattle.prettyless_printer.specs.CourseOf.{EndCourse, around, place_at, refused_after}
 use Rattle.prettyless_printer.specs.Runs.{station_of}
 use Rattle.prettyless_printer.proofs.Courses.{come_same, stops_after}
 use Rattle.prettyless_printer.proofs.RunCourses.{error_after, error_at, reaches_options, station_alone, station_ends, station_refuses}
@@ -32,7 +32,8 @@ rounds-init g c =
       comes = comes_first f old (seen_by g.W.Render c.args.out.now) c.requires.none;
       low = c.new-policy.ensures.within;
       start = start;
-      course = station_alone (station_of f old (seen_by g.W.Render c.args.out.now)) (ap (all_held f) c.requires.none) (come_same _ _);
+      course = λ before.
+          station_alone (station_of f old (seen_by g.W.Render c.args.out.now)) (ap (all_held f) c.requires.none) (come_same _ _);
       rises = omega arith;
       round = λ linear none. record {
         within = within_start (standing f old.printer) (held_of f old) old.visits (ap (all_held f) c.requires.none) linear;
@@ -164,13 +165,13 @@ rounds-preserved g c =
       comes = ((rw c.in-Shift.is at c.in_ok-resume.ensures.runs) start comes).comes;
       low = c.next_room-room.ensures.within;
       start = c.next_room-room.ensures.start ∙ c.rounds.invariant.start;
-      course =
+      course = λ before.
           let sink = seen_by g.W.Render in
           let z = station_of f c.try_shift.new.self (sink c.try_shift.new.out) in
-          let here = station_refuses (station_still f g.W.Render c.in_default.ensures.none) c.try_shift.ensures.refuses
-          c.rounds.invariant.course in
+          let here = station_refuses before (station_still f g.W.Render c.in_default.ensures.none) c.try_shift.ensures.refuses
+          (c.rounds.invariant.course before) in
           station_stops z (station_of f c.resume.new.self (sink c.resume.new.out)) (reaches_options start z comes) here
-          ((rw c.in-Shift.is at c.in_ok-resume.ensures.course) here.waiting c.try_shift.new.refused here.are);
+          ((rw c.in-Shift.is at c.in_ok-resume.ensures.course) here.waiting (refused_after before c.try_shift.new.refused) here.are);
       rises = omega (arith, c.rounds.invariant.rises, c.try_shift.ensures.rises);
       round = λ linear none.
           let before = c.rounds.invariant.round linear (omega (arith, none, c.try_shift.ensures.rises)) in
@@ -204,45 +205,47 @@ rounds-preserved g c =
 -- ---- Where it has come in its course
 
 pub returns-in-Some-clause-course : goal.returns-in-Some-clause-course
-returns-in-Some-clause-course g c =
+returns-in-Some-clause-course g c = λ before.
     let f = g.N.Walk.tree in
     let sink = seen_by g.W.Render in
     let start = point_of f c.args.self.now (sink c.args.out.now) in
     let z = station_of f c.rounds.self (sink c.rounds.out) in
     subst (λ (n : ℕ). EndCourse c.args.self.now.printer.options
-    (place_at (standing f c.args.self.now.printer) c.args.self.now.visits.probes (around [] g.N.Walk.HAS_SUMMARIES c.args.refused.now))
-    c.try_shift.new.self.visits.probes n c.in-Some.ended) (sym c.in-Some.ensures.made)
+    (place_at (standing f c.args.self.now.printer) c.args.self.now.visits.probes
+    (around [] g.N.Walk.HAS_SUMMARIES (refused_after before c.args.refused.now)))
+    c.try_shift.new.self.visits.probes (refused_after before n) c.in-Some.ended) (sym c.in-Some.ensures.made)
     (station_ends c.try_shift.new.self.visits.probes z c.in-Some.ended (reaches_options start z c.rounds.invariant.comes)
-    c.rounds.invariant.course c.in-Some.ensures.course)
+    (c.rounds.invariant.course before) c.in-Some.ensures.course)
 
 pub returns-in-Finished-clause-course : goal.returns-in-Finished-clause-course
-returns-in-Finished-clause-course g c =
+returns-in-Finished-clause-course g c = λ before.
     let f = g.N.Walk.tree in
     let sink = seen_by g.W.Render in
     let start = point_of f c.args.self.now (sink c.args.out.now) in
     let z = station_of f c.try_shift.new.self (sink c.try_shift.new.out) in
     let unmoved = station_still f g.W.Render c.in_default.ensures.none in
-    let here = station_refuses unmoved c.try_shift.ensures.refuses c.rounds.invariant.course in
+    let here = station_refuses before unmoved c.try_shift.ensures.refuses (c.rounds.invariant.course before) in
     let same = reaches_options start z (comes_still f g.W.Render start c.in_default.ensures.none c.rounds.invariant.comes) in
     stops_after here.comes (stops_at_options same
-    ((rw c.in-Finished.is at c.in_ok-resume.ensures.course) here.waiting c.try_shift.new.refused here.are))
+    ((rw c.in-Finished.is at c.in_ok-resume.ensures.course) here.waiting (refused_after before c.try_shift.new.refused) here.are))
 
 pub returns-in_err-resume-clause-course : goal.returns-in_err-resume-clause-course
 returns-in_err-resume-clause-course g c =
     let residual = err_from_is_err_and c.from_residual.result c.from_residual.ensures.1 in
     rw (residual.1, residual.2)
+    (λ before.
     let f = g.N.Walk.tree in
     let sink = seen_by g.W.Render in
     let start = point_of f c.args.self.now (sink c.args.out.now) in
     let z = station_of f c.try_shift.new.self (sink c.try_shift.new.out) in
     let unmoved = station_still f g.W.Render c.in_default.ensures.none in
-    let here = station_refuses unmoved c.try_shift.ensures.refuses c.rounds.invariant.course in
+    let here = station_refuses before unmoved c.try_shift.ensures.refuses (c.rounds.invariant.course before) in
     let same = reaches_options start z (comes_still f g.W.Render start c.in_default.ensures.none c.rounds.invariant.comes) in
     let e = c.in_err-resume.field-0.0 in
     let probes = c.resume.new.self.visits.probes in
-    let refused = c.try_shift.new.refused in
+    let refused = refused_after before c.try_shift.new.refused in
     error_after probes refused e here.comes (error_at _ probes refused e same (c.in_err-resume.ensures.course here.waiting refused
-    here.are))
+    here.are)))
 
 -- without unions
 pub returns-in-Some-clause-pays : goal.returns-in-Some-clause-pays

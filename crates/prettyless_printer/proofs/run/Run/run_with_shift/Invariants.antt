@@ -1,10 +1,10 @@
-use Rattle.std.proofs.Common.{◌≡◌, ◌-◌, ◌^◌, ◌≤◌, ◌<◌, []}
+use Rattle.std.proofs.Common.{◌≡◌, ℕ, ◌-◌, ◌^◌, ◌≤◌, ◌<◌, []}
 use Rattle.prettyless_probe.specs.Stack.{nodes}
 use Rattle.prettyless_step.specs.Printing.{tasks_of}
 use Rattle.prettyless_probe.specs.Sums.{IsSummed}
 use Rattle.prettyless_printer.specs.Points.{point_of, seen_by, standing}
 use Rattle.prettyless_printer.specs.Runs.{RunReaches, station_of}
-use Rattle.prettyless_printer.specs.CourseOf.{ComesToStation, around, place_at}
+use Rattle.prettyless_printer.specs.CourseOf.{ComesToStation, around, place_at, refused_after}
 use Rattle.prettyless_printer.specs.ShiftPolicy.{probe_limit}
 use Rattle.prettyless_printer.specs.Linear.{IsLinearStart}
 use Rattle.prettyless_printer.specs.Due.{due_of, unions_due}
@@ -21,9 +21,11 @@ invariant-rounds g l =
       comes : RunReaches (point_of f l.fn.self (sink l.fn.out)) (station_of f l.self (sink l.out));
       low : l.self.visits.probes ≤ probe_limit l.policy l.self.visits;
       start : l.policy.start ≡ l.fn.self.visits;
-      course : ComesToStation l.fn.self.printer.options
-          (place_at (standing f l.fn.self.printer) l.fn.self.visits.probes (around [] g.N.Walk.HAS_SUMMARIES l.fn.refused))
-          g.N.Walk.HAS_SUMMARIES l.refused (station_of f l.self (sink l.out));
+      course : (before : ℕ)
+          → ComesToStation l.fn.self.printer.options
+          (place_at (standing f l.fn.self.printer) l.fn.self.visits.probes
+          (around [] g.N.Walk.HAS_SUMMARIES (refused_after before l.fn.refused)))
+          g.N.Walk.HAS_SUMMARIES (refused_after before l.refused) (station_of f l.self (sink l.out));
       rises : l.fn.refused ≤ l.refused;
       round : IsLinearStart (standing f l.fn.self.printer) → l.refused ≡ 0 → Round f n l.room l.fn.self.visits l.policy l.self;
       first : IsLinearStart (standing f l.fn.self.printer) → l.refused ≡ 0 → 0 < l.fn.room_at_first → n ≤ l.fn.room_at_first

@@ -14,7 +14,7 @@ returns-in-Ok-None-clause-none g c = rw c.in-Ok-None.field-0-is at c.in-Ok-None.
 
 -- that table was refused memory
 pub returns-in-Err-clause-large : goal.returns-in-Err-clause-large
-returns-in-Err-clause-large g c = λ some none. absurd (omega (arith, none, c.one_more.ensures.one))
+returns-in-Err-clause-large g c = λ some none. absurd (omega (arith, none, c.count.ensures.one))
 
 pub returns-in-Err-clause-none : goal.returns-in-Err-clause-none
 returns-in-Err-clause-none g c = c.in-Err.ensures.refused

@@ -21,7 +21,7 @@ returns-clause-stored g c =
     let root = Root c.place_of-place.result c.args.root in
     let at : c.last.result ≡ length cells =
     omega (arith, c.last.ensures, ap length {y = cells ++ root ∷ []} c.in_ok-push.ensures.items, length-append cells (root ∷ [])) in
-    subst (λ (i : ℕ). HasAt (cell_trees f c.push.new.self.items) i (f c.args.root)) (sym at)
+    subst (λ (i : ℕ). HasAt (cell_trees f c.push.new.list.items) i (f c.args.root)) (sym at)
     (rw c.in_ok-push.ensures.items (has_new f cells c.place_of-place.result c.args.root))
 
 pub returns-clause-later : goal.returns-clause-later
