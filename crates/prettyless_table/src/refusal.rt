@@ -1,11 +1,11 @@
-//! Refused memory. Only a request that was refused makes a value that says so, and refusals are counted by such values alone.
+//! Refused memory (out of memory), as a value that only a refused request makes. Refusals are counted by such values alone.
 ghost use Rattle.std.specs.Prelude.{◌≡◌, ◌≤◌, ◌++◌, ◌∷◌, ℕ, [], OnErr, if◌then◌else◌, is_ok, vec_capacity, vec_len};
 ghost use Rattle.prettyless_sink.specs.Sink.{rise};
 
 use prettyless_model::count::one_more;
 use std::marker::Model;
 
-/// Memory for a table was refused, or for a list beside one. A request that was refused makes one, and nothing else does.
+/// Memory for a table, or for a list beside one, was refused. Only a refused request makes such a value.
 #[derive(Drop)]
 pub struct TableRefused {
     sealed: (),
@@ -19,7 +19,7 @@ pub(crate) fn refused<E: Drop>(_: E) -> TableRefused {
 
 /// Appends an item to a list that is made for a table.
 ///
-/// It fails where the list is full, and memory for more items is refused. The list has the items that it had then.
+/// It fails where the list is full and memory for more items is refused. The list then keeps the items that it had.
 #[inline(always)]
 pub fn push<T: Drop>(list: &mut Vec<T>, item: T) -> Result<(), TableRefused>
     ensures items { list.new.items ≡ (if is_ok result then list.old.items ++ item ∷ [] else list.old.items) }
@@ -59,7 +59,7 @@ impl Refusals {
         self.tables = one_more(self.tables);
     }
 
-    /// How many they are.
+    /// How many tables were refused memory.
     pub fn total(&self) -> u64
         ensures { result ≡ self.now }
     {
