@@ -1,5 +1,6 @@
 -- Which texts a layout spells: the lexemes of its text, each as it is spelled.
 use Rattle.std.specs.Prelude.{◌≡◌, ℕ, ◌==◌, ◌||◌, true, cond, List, [], ◌∷◌}
+use Rattle.prettyless_laws.specs.Bits.{AreWritten, Bit, IsSpelled, end_of_line, text_of}
 use Rattle.prettyless_model.specs.Options.{ending}
 use Rattle.prettyless_model.specs.Tree.{Tree}
 use Rattle.prettyless_model.specs.Layout.{Whole, layout}
