@@ -1,4 +1,4 @@
-r"""Reads the cases of programs/. Python 3.8 or later.
+r"""Reads the cases of cases/. Python 3.8 or later.
 
 tools/programs runs each proved program on the cases in the folder of its name, each in a folder of its own, not as
 root. Unless a case says otherwise, nothing is written, the status is 0, and no file changes.

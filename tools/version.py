@@ -21,8 +21,8 @@ FORMATTERS = ("jsonfmt", "tomlfmt")
 PLACES = [
     *(place(f"crates/{name}/src/request.rt", f'"{name}", "') for name in FORMATTERS),
     place("crates/tomlfmt/edits/asks_for_jsonfmt.edit", r'"(?:json|toml)fmt", "', 2),
-    place("programs/jsonfmt/words.cases", 'jsonfmt (?=[^"]*" \\.\\.$)', 2),
-    place("programs/tomlfmt/files.cases", 'tomlfmt (?=[^"]*" \\.\\.$)'),
+    place("cases/jsonfmt/words.cases", 'jsonfmt (?=[^"]*" \\.\\.$)', 2),
+    place("cases/tomlfmt/files.cases", 'tomlfmt (?=[^"]*" \\.\\.$)'),
     *(place(f"docs/{name}.1", f'^\\.TH \\w+ 1 "" "{name} ') for name in FORMATTERS),
     place("bindings/c/prettyless.h", '^#define PL_VERSION "'),
     place("bindings/python/yezhgulo/__init__.py", '^__version__ = "'),
