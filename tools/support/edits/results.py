@@ -1,6 +1,9 @@
-"""What a check says of functions that were edited, and what that shows of the edits. Python 3.8 or later."""
+"""What a check says of functions that were edited, and what that shows of the edits."""
 
+import os
 import re
+
+from support.command import read
 
 # What a try of an edit comes to. tools/edits says what each means.
 CLAUSE, OWN_CODE, NAME, PROVED, UNJUDGED = "clause", "own code", "name", "proved", "not judged"
@@ -59,8 +62,7 @@ class Said:
         every = [it for it in self.verdicts if any(it == name or it.startswith(f"{name}::") for name in functions)]
         gone = [goal for it in every for kind in (self.goals, self.names) for goal in kind.get(it, [])]
         refused = [(it, goal) for it in every for goal in self.refused(it)]
-        knows = lambda function: lambda loop: self.crate.knows_loop(function, loop)
-        clauses = [goal for it, goal in refused if is_of_a_clause(edit, goal, knows(it))]
+        clauses = [goal for it, goal in refused if is_of_a_clause(edit, goal, lambda loop: knows_loop(self.crate, it, loop))]
         if clauses:
             return CLAUSE, min(clauses, key=lambda goal: not AT_RETURN.search(goal))
         if refused:
@@ -79,14 +81,22 @@ class Said:
         return found + [f"no proof is made of {function}"] * bool(NOT_COVERED.match(self.verdicts[function]))
 
 
-def is_of_a_clause(edit, goal, knows_loop):
+def knows_loop(crate, function, loop):
+    """Whether the crate gives a loop of a function an invariant or a measure. That of a closure has the closure's name first."""
+    path = function.partition("::")[2].replace("::", "/")
+    file = f"{crate.folder}/proofs/{path}/Invariants.antt"
+    given = re.findall(r"^abbrev pub ((?:[\w-]+-)?(?:invariant|decreases)-[\w-]+)", read(file), re.M) if os.path.isfile(file) else []
+    return loop in {re.sub(r"\b(invariant|decreases)-", "", name, count=1) for name in given}
+
+
+def is_of_a_clause(edit, goal, knows):
     """Whether a goal is of a clause: at a return, of a type's invariant, or of that of a loop that was there before the edit."""
     if "-requires" in goal:
         return False
     if AT_RETURN.search(goal) or goal.startswith("invariant_of-"):
         return True
     loop = OF_LOOP.match(goal)
-    return bool(loop) and (not edit.brings_a_loop() or knows_loop(loop[1]))
+    return bool(loop) and (not edit.brings_a_loop() or knows(loop[1]))
 
 
 def told_clause(edit, message):
