@@ -1,4 +1,4 @@
-"""What Python's own json reads in a text, with strings and numbers as they are spelled. Python 3.8 or later."""
+"""What Python's own json reads in a text, with strings and numbers as they are spelled."""
 
 import json.decoder
 import json.scanner

@@ -1,4 +1,4 @@
-"""What the runs of the prover below a process take, by kind, as /proc tells while they run. Python 3.8 or later."""
+"""What the runs of the prover below a process take, by kind, as /proc tells while they run."""
 
 import os
 import threading

@@ -1,11 +1,11 @@
-"""The version, and the places that have it, for the scripts of this folder. Python 3.8 or later."""
+"""The version, and the places that have it."""
 
-import os
 import re
 import subprocess
 from collections import namedtuple
 
-ROOT = os.path.dirname(os.path.dirname(os.path.abspath(__file__)))
+from support.command import ROOT, Reader, read, write
+
 NUMBER = r"(\d[\w.+-]*)"
 
 # A file that has the version, what stands before it there, and how often.
@@ -31,18 +31,13 @@ PLACES = [
 ]
 
 
-def read(path):
-    with open(f"{ROOT}/{path}", encoding="utf-8") as file:
-        return file.read()
-
-
 def version():
-    return read("VERSION").strip()
+    return read(f"{ROOT}/VERSION").strip()
 
 
 def others():
     """Each place that has another version or another number of them, and what it has."""
-    found = [(it, [found[2] for found in it.pattern.finditer(read(it.path))]) for it in PLACES]
+    found = [(it, [found[2] for found in it.pattern.finditer(read(f"{ROOT}/{it.path}"))]) for it in PLACES]
     return [(it.path, numbers) for it, numbers in found if numbers != [version()] * it.times]
 
 
@@ -58,3 +53,28 @@ def git(*words):
     """What a command of git prints."""
     how = {"stdout": subprocess.PIPE, "stderr": subprocess.DEVNULL, "universal_newlines": True}
     return subprocess.run(["git", *words], cwd=ROOT, check=True, **how).stdout.strip()
+
+
+# tools/versions
+
+
+def set_all(new):
+    write(f"{ROOT}/VERSION", f"{new}\n")
+    for it in PLACES:
+        path = f"{ROOT}/{it.path}"
+        write(path, it.pattern.sub(lambda found: found[1] + new, read(path)))
+
+
+def main(about):
+    reader = Reader(about)
+    reader.add_argument("new", nargs="?")
+    new = reader.parse_args().new
+    if new and not re.fullmatch(r"\d+\.\d+\.\d+", new):
+        reader.error(f"{new} is no version")
+    if new:
+        set_all(new)
+    found = others()
+    for path, numbers in found:
+        print(f"{path}: {' '.join(numbers) or 'no version'}, and VERSION has {version()}")
+    print(f"versions: {version()} in {len(PLACES)} places, {len(found)} of them otherwise")
+    return 1 if found else 0

@@ -1,4 +1,4 @@
-r"""Reads the cases of cases/. Python 3.8 or later.
+r"""The language of the cases in cases/.
 
 tools/programs runs each proved program on the cases in the folder of its name, each in a folder of its own, not as
 root. Unless a case says otherwise, nothing is written, the status is 0, and no file changes.
@@ -54,19 +54,15 @@ import glob
 import os
 import re
 
+from support.command import Failed
+
 STRING = r'"(?:[^"\\]|\\.)*"'
 REPEATED = rf"{STRING}(?: \* \d+)?"
 TEXT = re.compile(rf"{REPEATED}(?: \+ {REPEATED})*(?: \.\.)?")
 VALUE = re.compile(rf"{TEXT.pattern}|\S+")
 ESCAPE = re.compile(r"\\(?:x(\w\w)|u\{(\w+)\}|(.))")
 ESCAPED = {"n": b"\n", "r": b"\r", "t": b"\t", '"': b'"', "\\": b"\\"}
-
-
 BARE = re.compile(r'[^"\s]\S*')
-
-
-class BadCase(Exception):
-    """A line that is none of the language."""
 
 
 @contextlib.contextmanager
@@ -74,8 +70,8 @@ def naming(place):
     """Has an error in what is read name the place."""
     try:
         yield
-    except (BadCase, ValueError) as error:
-        raise BadCase(f"{place}: {error}") from None
+    except (Failed, ValueError) as error:
+        raise Failed(f"{place}: {error}") from None
 
 
 class Beginning(bytes):
@@ -113,7 +109,7 @@ def escaped(found):
     """The bytes of one escape."""
     byte, code, letter = found.groups()
     if letter and letter not in ESCAPED:
-        raise BadCase(f"no escape: {found[0]}")
+        raise Failed(f"no escape: {found[0]}")
     if letter:
         return ESCAPED[letter]
     return bytes([int(byte, 16)]) if byte else chr(int(code, 16)).encode()
@@ -133,7 +129,7 @@ def text_of(value):
     if BARE.fullmatch(value):
         return value
     if not TEXT.fullmatch(value):
-        raise BadCase(f"no text: {value}")
+        raise Failed(f"no text: {value}")
     parts = [unquoted(it[1]) * int(it[2] or 1) for it in re.finditer(rf"({STRING})(?: \* (\d+))?", value)]
     return (Beginning if value.endswith(" ..") else bytes)(b"".join(parts))
 
@@ -208,7 +204,7 @@ def row_of(case, place, line):
     kinds, values = case["rows"], VALUE.findall(line)
     with naming(place):
         if len(values) != len(kinds):
-            raise BadCase(f"{len(values)} values, and {len(kinds)} are named")
+            raise Failed(f"{len(values)} values, and {len(kinds)} are named")
         return case.having(place, {kind: row_value(kind, value) for kind, value in zip(kinds, values)})
 
 
@@ -241,7 +237,7 @@ def take_line(groups, place, line):
     elif not line or line[0] == "#":
         pass
     elif not groups:
-        raise BadCase(f"{place}: no case begins with {line}")
+        raise Failed(f"{place}: no case begins with {line}")
     elif line == "--":
         groups[-1].append(Part(place, groups[-1][0].title))
     elif line.startswith(("|", '"')):
@@ -249,7 +245,7 @@ def take_line(groups, place, line):
     else:
         found = FIELD.fullmatch(line)
         if not found:
-            raise BadCase(f"{place}: no field: {line}")
+            raise Failed(f"{place}: no field: {line}")
         groups[-1][-1].written.append(Field(place, *found.groups()))
 
 
@@ -259,7 +255,7 @@ def cases_of(path, program):
     for common, *parts in parts_of(path):
         fields = fields_of(common.written)
         if parts and "rows" in fields:
-            raise BadCase(f"{common.place}: rows that several cases have in common")
+            raise Failed(f"{common.place}: rows that several cases have in common")
         for part in parts or [common]:
             cases += part.cases(program, fields if parts else {})
     return [one for it in cases for one in with_texts(it, os.path.dirname(path))]

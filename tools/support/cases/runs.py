@@ -1,4 +1,4 @@
-"""Runs a program on a case of cases/, in a folder of its own. Python 3.8 or later."""
+"""Runs a program on a case, in a folder of its own."""
 
 import collections
 import errno
