@@ -64,7 +64,7 @@ class Import(unittest.TestCase):
         self.assertIn("tools/install library", complaint)
 
     def test_the_library_has_one_name(self):
-        with open(os.path.join(REPOSITORY, "tools", "c_library.py"), encoding="utf-8") as file:
+        with open(os.path.join(REPOSITORY, "tools", "support", "library", "c_library.py"), encoding="utf-8") as file:
             self.assertIn(f'SONAME = f"{{SHARED}}{_places.SONAME[len(_places.FILE):]}"', file.read())
 
 

@@ -1,4 +1,4 @@
-"""A toolchain that has the proved library among its own, for tools/install and tools/release. Python 3.8 or later.
+"""A toolchain that has the proved library among its own.
 
 With its `rt`, a crate of any repository names `prettyless` in crates.txt as it names `json`. It is a folder of links to
 the plain toolchain, with `bin` copied: rt finds its toolchain by its own real path. What a proof has made of the
@@ -11,22 +11,18 @@ import os
 import shutil
 import tarfile
 
-from repositories import with_below
+from support.command import content, link_all, read
+from support.crates import PARTS, with_below
+from support.version import commit, version
 
 # The crates that are for other repositories; those below them come along.
 NAMED = ("prettyless", "prettyless_shapes")
 RECORD = "yezhgulo.json"
-# What `rt try` and `rt lemma` read of a library.
-SOURCES = ("src", "specs", "proofs")
 
 
 def build_of(kit):
     """What tells a build of the toolchain from others."""
-    texts = []
-    for name in ("KIT-ID", "WHAT"):
-        with open(f"{kit}/{name}", encoding="utf-8") as file:
-            texts.append(file.read().strip())
-    return "\n".join(texts)
+    return "\n".join(read(f"{kit}/{name}").strip() for name in ("KIT-ID", "WHAT"))
 
 
 def is_plain(kit):
@@ -38,18 +34,19 @@ def sum_of(crates):
     """A sum of all that a proof reads of these crates."""
     sums = hashlib.sha256()
     for crate in crates:
-        for part in SOURCES:
+        for part in PARTS:
             for at, folders, files in os.walk(f"{crate.folder}/{part}"):
                 folders.sort()
                 for name in sorted(files):
-                    with open(f"{at}/{name}", "rb") as file:
-                        sums.update(repr((os.path.relpath(f"{at}/{name}", crate.folder), file.read())).encode())
+                    path = f"{at}/{name}"
+                    sums.update(repr((os.path.relpath(path, crate.folder), content(path))).encode())
     return sums.hexdigest()
 
 
-def record_of(kit, crates, what):
-    """The record of the libraries that a toolchain proved of these crates, with what else is to be known of them."""
-    return {"toolchain": build_of(kit), "sources": sum_of(with_below(NAMED, crates)), **what}
+def record_of(kit, crates):
+    """The record of the libraries that a toolchain proved of these crates of the checkout."""
+    sums = {"toolchain": build_of(kit), "sources": sum_of(with_below(NAMED, crates))}
+    return {**sums, "version": version(), "commit": commit()}
 
 
 def difference(record, kit, crates):
@@ -65,8 +62,8 @@ def difference(record, kit, crates):
 def collect(crates, library, record, to):
     """Puts the libraries into a folder, each as its `library` names its place, with their sources and the record."""
     for crate in with_below(NAMED, crates):
-        shutil.copytree(library(crate.name), f"{to}/rlibs/{crate.name}.rlib")
-        for part in SOURCES:
+        shutil.copytree(library(crate), f"{to}/rlibs/{crate.name}.rlib")
+        for part in PARTS:
             if os.path.isdir(f"{crate.folder}/{part}"):
                 shutil.copytree(f"{crate.folder}/{part}", f"{to}/rattle/{crate.name}/{part}")
     with open(f"{to}/{RECORD}", "w", encoding="utf-8") as file:
@@ -81,14 +78,7 @@ def unpack(archive, to):
             if member.name.startswith("/") or ".." in parts or not (member.isdir() or member.isfile()):
                 raise OSError(f"{archive} has {member.name}, which has no place in it")
             packed.extract(member, to, set_attrs=False)
-    with open(f"{to}/{RECORD}", encoding="utf-8") as file:
-        return json.load(file)
-
-
-def link_all(folder, to):
-    os.makedirs(to)
-    for name in os.listdir(folder):
-        os.symlink(f"{folder}/{name}", f"{to}/{name}")
+    return json.loads(read(f"{to}/{RECORD}"))
 
 
 def make(kit, libraries, to):

@@ -1,4 +1,4 @@
-"""Proves crates, and builds programs and static libraries of them, for tools/install. Python 3.8 or later.
+"""Proves crates, and builds programs and static libraries of them.
 
 The crates and those below them are copied without their edits, and `rt ci` proves the copy: each crate once, as many at
 once as processors and memory bear. What a run on this machine proved of the same files is taken as it is.
@@ -10,21 +10,14 @@ import shutil
 import subprocess
 import time
 
-import built
-from proof_times import ProofTimes, crate_of
-from repositories import below, with_below
+from support.command import Failed, status_of, write
+from support.crates import PARTS, below, with_below
+from support.proof_times import ProofTimes, crate_of
+from support.toolchain import prove_static
 
-# What a proof reads of a crate, and what `rt ci` runs a program on.
-PARTS = "src specs proofs args stdin stdout status data".split()
+# What `rt ci` runs a program on.
+RUN_ON = ("args", "stdin", "stdout", "status", "data")
 DONE = re.compile(r"rt: (\w+) (proved|NOT PROVED|is kept:.*)")
-
-
-class Failed(Exception):
-    """What was not proved or built, and what was printed of it."""
-
-    def __init__(self, why, printed=""):
-        super().__init__(why)
-        self.printed = printed
 
 
 class Prover:
@@ -44,12 +37,11 @@ class Prover:
     def copy(self, wanted):
         """Copies these crates to a repository of their own."""
         os.makedirs(f"{self.root}/.git")
-        with open(f"{self.root}/crates.txt", "w", encoding="utf-8") as file:
-            file.write("".join(f"{it.line}\n" for it in wanted))
+        write(f"{self.root}/crates.txt", "".join(f"{it.line}\n" for it in wanted))
         if os.path.exists(self.handles):
             shutil.copy(self.handles, f"{self.root}/HANDLES")
         for it in wanted:
-            for part in PARTS:
+            for part in (*PARTS, *RUN_ON):
                 path, to = f"{it.folder}/{part}", f"{self.root}/crates/{it.name}/{part}"
                 if os.path.isdir(path):
                     shutil.copytree(path, to)
@@ -73,7 +65,8 @@ class Prover:
         except BaseException:
             ran.terminate()
             raise
-        _, ran.returncode, usage = os.wait4(ran.pid, 0)
+        _, ended, usage = os.wait4(ran.pid, 0)
+        ran.returncode = status_of(ended)
         times.stop()
         lacking = [it.name for it in wanted if it.name not in {*self.proved, *self.kept}]
         # The status is also that of programs, which `rt ci` runs on their examples: those are tests, and nothing here.
@@ -94,17 +87,16 @@ class Prover:
             self.kept.append(done[1])
             say(f"{done[1]} kept: an earlier run on this machine proved it")
 
-    def library(self, name):
-        """The folder of the proved library of this name."""
-        return f"{self.root}/crates/{name}/out/rlib/{name}.rlib"
+    def library(self, crate):
+        """Where the proved library of a crate stands."""
+        return f"{self.root}/crates/{crate.name}/out/rlib/{crate.name}.rlib"
 
     def program(self, name, to):
         shutil.copy(f"{self.root}/crates/{name}/out/{name}", to)
 
     def static_library(self, name, to):
         """Proves a static library over the libraries below it, and builds its archive."""
-        crate = self.crates[name]
-        libraries = {it.name: self.library(it.name) for it in below([name], self.crates)}
-        made = built.build_over(name, crate.folder, crate.uses, libraries, to)
-        if made.returncode:
-            raise Failed(f"{name} is not proved", made.stdout)
+        libraries = {it.name: self.library(it) for it in below([name], self.crates)}
+        printed, status = prove_static(self.crates[name], libraries, to)
+        if status:
+            raise Failed(f"{name} is not proved", printed)
