@@ -1,4 +1,4 @@
-"""Lowers a WebAssembly module whose memory has 64 bits to one of 32 bits, which all engines have. Python 3.8 or later.
+"""Lowers a WebAssembly module whose memory has 64 bits to one of 32 bits, which all engines have.
 
 Numbers stay as they are: addresses have 64 bits in the code, and are wrapped where the memory is used. What a module may
 have is what the toolchain's compiler writes; anything else is `Unknown`. Custom sections, such as names, are left out. An

@@ -1,4 +1,4 @@
-"""Makes the WebAssembly module of the code of the calls for other languages. Python 3.8 or later.
+"""Makes the WebAssembly module of the code of the calls for other languages.
 
 What the toolchain passes to its compiler for x86-64, LLVM's intermediate representation, is compiled once more, for
 WebAssembly with a memory of 64 bits, and linked, by the toolchain. Then memory32.py lowers it to a memory of 32 bits. Its
@@ -7,12 +7,13 @@ heap is imported: bindings/javascript/heap.js.
 
 import os
 import re
-import subprocess
 import tempfile
 
-import built
-import memory32
-from c_library import CALLS
+from support import built
+from support.command import Failed, content, output, read, write
+from support.library.c_library import CALLS
+from support.toolchain import AS_TEXT, kit
+from support.web import memory32
 
 NAME = "prettyless.wasm"
 HEAP = ("rattle_alloc", "rattle_realloc", "rattle_dealloc")
@@ -26,34 +27,11 @@ FLAGS = """-mcpu=lime1 -mllvm -expand-div-rem-bits=64 -mllvm -expand-fp-convert-
 PROCESSOR = '"target-cpu"="lime1" "no-builtin-bcmp" "no-builtin-memcmp" "no-builtin-strlen"'
 
 
-class Failed(Exception):
-    """What was not made, and all that was printed of it."""
-
-    def __init__(self, why, printed=""):
-        super().__init__(why)
-        self.printed = printed
-
-
-def run(words):
-    """What a command writes."""
-    ended = subprocess.run(words, stdout=subprocess.PIPE, stderr=subprocess.STDOUT)
-    written = ended.stdout.decode(errors="replace")
-    if ended.returncode:
-        raise Failed(f"`{' '.join(words)}` ended with {ended.returncode}", written)
-    return written
-
-
 def proved_code(folder):
     """The text of the code of the calls, which is proved."""
-    try:
-        code = built.code("prettyless_c")
-    except built.Failed as failed:
-        raise Failed(str(failed), failed.printed) from failed
     text = f"{folder}/library.ll"
-    as_it_is = ["-O0", "-Xclang", "-disable-llvm-passes"]
-    run([f"{built.kit()}/toolchain/bin/clang", "-x", "ir", code, "-S", "-emit-llvm", *as_it_is, "-o", text])
-    with open(text, encoding="utf-8") as file:
-        return file.read()
+    output([f"{kit()}/toolchain/bin/clang", "-x", "ir", built.code(), *AS_TEXT, "-o", text])
+    return read(text)
 
 
 def replaced(pattern, by, code):
@@ -79,14 +57,13 @@ def for_wasm(code):
 
 def linked(code, folder):
     """The path of a module with a memory of 64 bits, which the code is compiled and linked to."""
-    kit = built.kit()
-    source, compiled, archive, module = (f"{folder}/web.{it}" for it in ("ll", "o", "a", "wasm"))
-    with open(source, "w", encoding="utf-8") as file:
-        file.write(code)
-    run([f"{kit}/toolchain/bin/clang", f"--target={TARGET}", *FLAGS, "-x", "ir", source, "-o", compiled])
-    run([f"{kit}/toolchain/bin/llvm-ar", "rcsD", "--format=gnu", archive, compiled])
-    link = [f"{kit}/bin/rattle-link", "--target", TARGET, "--toolchain", f"{kit}/toolchain"]
-    said = run([*link, "-o", module, archive])
+    at = kit()
+    compiled, archive, module = (f"{folder}/web.{it}" for it in ("o", "a", "wasm"))
+    source = write(f"{folder}/web.ll", code)
+    output([f"{at}/toolchain/bin/clang", f"--target={TARGET}", *FLAGS, "-x", "ir", source, "-o", compiled])
+    output([f"{at}/toolchain/bin/llvm-ar", "rcsD", "--format=gnu", archive, compiled])
+    link = [f"{at}/bin/rattle-link", "--target", TARGET, "--toolchain", f"{at}/toolchain"]
+    said = output([*link, "-o", module, archive])
     imported = set(re.search(r"imports=(\S*)", said)[1].split(","))
     if imported != {f"heap.{call}" for call in HEAP}:
         raise Failed(f"the module imports {' '.join(sorted(imported))}")
@@ -95,8 +72,7 @@ def linked(code, folder):
 
 def module_of(code, folder, to):
     """Makes the module of a code at this path."""
-    with open(linked(for_wasm(code), folder), "rb") as file:
-        wide = file.read()
+    wide = content(linked(for_wasm(code), folder))
     try:
         narrow = memory32.lowered(wide)
     except memory32.Unknown as unknown:

@@ -1,11 +1,12 @@
-"""The package for JavaScript: a folder for `npm install`. Python 3.8 or later."""
+"""The package for JavaScript: a folder for `npm install`."""
 
 import glob
 import json
 import os
 import shutil
 
-ROOT = os.path.dirname(os.path.dirname(os.path.abspath(__file__)))
+from support.command import ROOT, read
+
 SOURCE = f"{ROOT}/bindings/javascript"
 
 
@@ -13,8 +14,7 @@ def package_of(module, folder):
     """Puts what the package has into a new folder: the files that its package.json names, and this module."""
     shutil.rmtree(folder, ignore_errors=True)
     os.makedirs(folder)
-    with open(f"{SOURCE}/package.json", encoding="utf-8") as file:
-        patterns = json.load(file)["files"]
+    patterns = json.loads(read(f"{SOURCE}/package.json"))["files"]
     left_out = {it[1:] for it in patterns if it.startswith("!")}
     for pattern in ["package.json", "README.md", *patterns]:
         for path in glob.glob(f"{SOURCE}/{pattern}"):
