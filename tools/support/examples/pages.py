@@ -21,6 +21,8 @@ import json
 import re
 import unicodedata
 
+from support.command import read
+
 HEAD = re.compile(r"(?:\d+ columns?|[a-z]+)(?: +\| (?:\d+ columns?|[a-z]+))+")
 ITEM = re.compile(r"(?:const|enum|fn|impl|struct)\b| ")
 CONTRACT = re.compile(r" +(?:ensures|requires) ")
@@ -66,11 +68,6 @@ class Texts:
         """Whether a test states the layout at this width, alone or with a line end after it."""
         rows = [f"({column.head.split()[0]}, {literal(column.layout + end)})" for end in ("", "\n")]
         return any(row in it for it in self.tests for row in rows)
-
-
-def read(path):
-    with open(path, encoding="utf-8") as file:
-        return file.read()
 
 
 def squeezed(text):

@@ -1,9 +1,10 @@
-"""The runs of tools/refuse_memory: programs over small inputs, and how they may end. Python 3.8 or later."""
+"""The runs of tools/refuse_memory: programs over small inputs, and how they may end."""
 
 import re
 from collections import namedtuple
 
-import built
+from support import built
+from support.command import ROOT, content
 
 # How a run ends: its status, what it writes, what it says on standard error, and the files that then stand in its folder.
 Ending = namedtuple("Ending", "status out said files")
@@ -14,11 +15,6 @@ Run = namedtuple("Run", "program words given files ending other", defaults=[None
 
 def name_of(run):
     return " ".join([run.program, *run.words])
-
-
-def content(path):
-    with open(path, "rb") as file:
-        return file.read()
 
 
 # The formatters
@@ -86,7 +82,7 @@ def groups(end):
 
 def stored(name):
     """Each case of a file, and its outcome."""
-    lines = content(f"{built.ROOT}/tools/shim/{name}.cases").decode().splitlines()
+    lines = content(f"{ROOT}/tools/shim/{name}.cases").decode().splitlines()
     return [tuple(line.split(" => ")) for line in lines if not line.startswith("#")]
 
 
