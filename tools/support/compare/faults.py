@@ -1,19 +1,21 @@
-#!/usr/bin/env python3
-"""Breaks JSON texts at random, and compares where `jsonfmt` and python find that they are none.
+"""JSON texts broken at random: the place where `jsonfmt` finds that they are none, beside the one that Python's json names.
 
-usage: compare_faults.py JSONFMT [TEXTS] [SEED]     (3,000 texts and the seed 1 if none are named)
-
-Where a lexeme is none itself, as `01`, `jsonfmt` names where it begins, and python a place within it or its end. Of a string without an
-end python names the beginning, as `jsonfmt` does at the end of its message. Ends with status 1 where only one of the two takes a text,
-or where `jsonfmt` names a later place.
+Where a lexeme is none itself, as `01`, `jsonfmt` names where it begins, and Python a place within it or its end. Of a string
+without an end Python names the beginning, as `jsonfmt` does at the end of its message. It is a difference where only one of
+the two takes a text, or where `jsonfmt` names a later place.
 """
+
 import json
 import random
-import subprocess
-import sys
+
+from support.compare.files import ran, said
 
 LEAVES = ["1", '"s"', "true", "null", "-2.5e3"]
 PIECES = ["{", "}", "[", "]", ",", ":", '"a"', "1", "true", " ", "\n", "é", "01", '"x', "1e", "nul", "\\"]
+
+
+def lacking():
+    return ""
 
 
 def text_of(depth):
@@ -39,7 +41,7 @@ def broken(text):
 
 
 def place_of_python(text):
-    """The line and the column that python names, and None where it takes the text."""
+    """The line and the column that Python names, and None where it takes the text."""
     try:
         json.loads(text, parse_constant=lambda word: json.loads(""))
     except json.JSONDecodeError as error:
@@ -49,23 +51,20 @@ def place_of_python(text):
 
 def place_of_program(program, text):
     """The line and the column that the program names, and None where it takes the text."""
-    ran = subprocess.run([program], input=text.encode(), capture_output=True)
-    if ran.returncode == 0:
+    ended = ran(program, text.encode())
+    if ended.returncode == 0:
         return None
-    assert ran.returncode == 1 and not ran.stdout, ran
-    said = ran.stderr.decode()
-    place = said.split(":")[1:3]
-    if "found the end of the text, opened at" in said and "closing quote" in said:
-        place = said.split("opened at ")[1].split(":")
+    message = said(ended)
+    place = message.split(":")[1:3]
+    if "found the end of the text, opened at" in message and "closing quote" in message:
+        place = message.split("opened at ")[1].split(":")
     return int(place[0]), int(place[1])
 
 
-def main():
-    program, *words = sys.argv[1:]
-    count, seed = (int(it) for it in words + ["3000", "1"][len(words) :])
-    random.seed(seed)
+def compare(program, options):
+    random.seed(options.seed)
     good, same, earlier, differ = 0, 0, 0, 0
-    for _ in range(count):
+    for _ in range(options.texts):
         text = broken(text_of(3))
         found, wanted = place_of_program(program, text), place_of_python(text)
         if found == wanted:
@@ -74,9 +73,6 @@ def main():
             earlier += 1
         else:
             differ += 1
-            print(f"{text!r}: {found}, and {wanted} by python")
-    print(f"{good} are JSON; {same} at the same place, {earlier} at the beginning of a lexeme that is none, {differ} differ")
-    return 1 if differ else 0
-
-
-sys.exit(main())
+            print(f"{text!r}: {found}, and {wanted} by Python")
+    places = f"{same} faults at the same place, {earlier} at the beginning of a lexeme that is none, {differ} elsewhere"
+    return f"{good} texts are JSON, {places}", differ

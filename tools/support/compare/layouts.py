@@ -1,16 +1,19 @@
-#!/usr/bin/env python3
-"""Works out what `bench` prints of groups in groups, by the rules of crates/prettyless_model/specs/Layout.antt.
-
-usage: bench_layouts.py [LEVELS]
-
-Prints name, nodes, bytes and checksum of documents as small as `bench` compares them, or those of groups in groups
-with so many levels, within as many columns. The documents are those of crates/bench/src.
+"""What `bench` prints of small documents, beside what comes of them by the rules of crates/prettyless_model/specs/Layout.antt,
+which are written here once more. The documents are those of crates/bench/src.
 """
-import sys, threading
+
+import sys
+import threading
+
+from support.command import ROOT, read
 
 NIL, BREAK, SPACE, WEAK = ("nil",), ("break",), ("text", " "), ("weak",)
 LINE, LINE_ = ("either", BREAK, SPACE), ("either", BREAK, NIL)
 CONSTANTS = [NIL, BREAK, SPACE, WEAK, LINE, LINE_]  # an arena places none of these
+
+
+def lacking():
+    return ""
 
 
 def text(s):
@@ -50,18 +53,18 @@ def comment(s):
     return ("suffix", text(s))
 
 
-# name: small size, width, whether its size is a number of levels, document
+# Of each name its small size, its width, and its document.
 WORKLOADS = {
-    "texts": (1000, 80, True, levels("a", lambda d: group(append(text("a"), LINE, d)))),
-    "kept": (100, 80, True, levels("a", lambda d: ("union", append(text("a"), BREAK, d), text("b")))),
-    "tails": (100, 80, True, levels("a", lambda d: append(group(append(LINE_, d)), text("a text of forty columns, behind a group.")))),
-    "weak": (1000, 80, False, lines(lambda: append(text("a text with a remark"), WEAK, comment("  # why"), BREAK))),
-    "sums": (1000, 80, True, levels("a", lambda d: group(append(d, LINE, text("+ b"))))),
-    "spaces": (1000, 80, True, levels("a", lambda d: group(append(append(text("a"), WEAK), LINE, d)))),
-    "remarks": (1000, 80, True, levels("a", lambda d: group(append(append(text("a"), comment("  # why")), LINE, d)))),
-    "unions": (1000, 80, True, levels("a", lambda d: group(append(text("a"), LINE, ("union", d, text("b")))))),
-    "partial": (1000, 80, True, levels("a", lambda d: group(append(text("a"), LINE, ("partial", d, text("b")))))),
-    "records": (50, 80, False, lines(lambda: append(append(*(cell() for _ in range(30))), BREAK))),
+    "texts": (1000, 80, levels("a", lambda d: group(append(text("a"), LINE, d)))),
+    "kept": (100, 80, levels("a", lambda d: ("union", append(text("a"), BREAK, d), text("b")))),
+    "tails": (100, 80, levels("a", lambda d: append(group(append(LINE_, d)), text("a text of forty columns, behind a group.")))),
+    "weak": (1000, 80, lines(lambda: append(text("a text with a remark"), WEAK, comment("  # why"), BREAK))),
+    "sums": (1000, 80, levels("a", lambda d: group(append(d, LINE, text("+ b"))))),
+    "spaces": (1000, 80, levels("a", lambda d: group(append(append(text("a"), WEAK), LINE, d)))),
+    "remarks": (1000, 80, levels("a", lambda d: group(append(append(text("a"), comment("  # why")), LINE, d)))),
+    "unions": (1000, 80, levels("a", lambda d: group(append(text("a"), LINE, ("union", d, text("b")))))),
+    "partial": (1000, 80, levels("a", lambda d: group(append(text("a"), LINE, ("partial", d, text("b")))))),
+    "records": (50, 80, lines(lambda: append(append(*(cell() for _ in range(30))), BREAK))),
 }
 
 
@@ -168,22 +171,33 @@ def placed(doc):
     return count
 
 
-def main():
-    wide = int(sys.argv[1]) if len(sys.argv) > 1 else None
-    for name, (size, width, nests, document) in WORKLOADS.items():
-        if wide and not nests:
-            continue
-        doc, layout = document(wide or size), Layout(wide or width)
-        layout.lay(doc, False, None)
-        layout.flush(None)
-        out, total = "".join(layout.out).encode(), 0
-        for byte in out:
-            total = (total * 257 + byte) % 4294967291
-        print(f"{name} {placed(doc)} {len(out)} {total:08x}")
+def line_of(name):
+    """The name, nodes, bytes and checksum of a small document, as `bench` prints them."""
+    size, width, document = WORKLOADS[name]
+    doc, layout = document(size), Layout(width)
+    layout.lay(doc, False, None)
+    layout.flush(None)
+    out, total = "".join(layout.out).encode(), 0
+    for byte in out:
+        total = (total * 257 + byte) % 4294967291
+    return f"{name} {placed(doc)} {len(out)} {total:08x}"
 
 
-sys.setrecursionlimit(10**7)
-threading.stack_size(2**30)
-thread = threading.Thread(target=main)
-thread.start()
-thread.join()
+def in_a_deep_stack(call):
+    """What a call answers that calls itself as deep as documents are."""
+    found = []
+    sys.setrecursionlimit(10**7)
+    threading.stack_size(2**30)
+    thread = threading.Thread(target=lambda: found.append(call()))
+    thread.start()
+    thread.join()
+    return found[0]
+
+
+def compare(_, __):
+    stored = {it.split()[0]: it for it in read(f"{ROOT}/crates/bench/stdout").splitlines()}
+    lines = in_a_deep_stack(lambda: {name: line_of(name) for name in WORKLOADS})
+    others = [name for name, line in lines.items() if line != stored[name]]
+    for name in others:
+        print(f"{lines[name]}, where bench prints {stored[name]}")
+    return f"{len(lines)} documents, {len(others)} otherwise", len(others)

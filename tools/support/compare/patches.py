@@ -1,82 +1,82 @@
-"""Differences of files whose names are out of the ordinary, given to GNU `patch` and `git apply`, against what the program writes.
+"""What `jsonfmt --diff` writes of files with strange names, given to GNU `patch` and to `git apply`, beside `jsonfmt --write`.
 
-    python3 measurements/patch_names.py PROGRAM
-
-PROGRAM is `jsonfmt`. Each file is made in a folder of its own, with others beside it whose names a careless reader would take for its
-name. `PROGRAM --diff FILE` is handed to `patch -p0` and to `git apply -p0`, and the folder is then to be as after `PROGRAM --write FILE`.
-One name is of bytes that are no UTF-8: of it a message is wanted, and of the file beside it the layout.
+Each file is made in a folder of its own, with others beside it whose names a careless reader would take for its name. Of a
+name of bytes that are no UTF-8 a message is wanted, and of the file beside it the layout.
 """
+
 import os
-import subprocess
-import sys
+import shutil
 import tempfile
 
+from support.command import content
+from support.compare.files import ran, said
+
 NAMES = [
-    'a.json', 'sub/a.json', 'a b.json', 'a  b.json', ' a.json', 'a.json ', 'a\tb.json', 'a\nb.json', '\n', 'a"b.json', '"a.json"',
-    'a\\b.json', 'a\\tb.json', '-x.json', '--', '\x01.json', '\x7f.json', '\a\b\v\f\r', 'é.json', 'é b.json', '"é".json', '\u00a0.json',
-    'a\u2028b.json', 'a (1).json', 'a.json\t2001-01-01', 'a 2001-01-01 00:00:00 b.json', 'sub b/a b.json', ' ', '/dev/null.json'[1:],
-    '+++ a', '@@ -1 +1 @@', '\\101.json', "a'b.json", '日本 語.json', 'a\x85b.json', 'a\rb.json', 'a b\r',
-]
+    "a.json", "sub/a.json", "a b.json", "a  b.json", " a.json", "a.json ", "a\tb.json", "a\nb.json", "\n", 'a"b.json', '"a.json"',
+    "a\\b.json", "a\\tb.json", "-x.json", "--", "\x01.json", "\x7f.json", "\a\b\v\f\r", "é.json", "é b.json", '"é".json', "\u00a0.json",
+    "a\u2028b.json", "a (1).json", "a.json\t2001-01-01", "a 2001-01-01 00:00:00 b.json", "sub b/a b.json", " ", "dev/null.json",
+    "+++ a", "@@ -1 +1 @@", "\\101.json", "a'b.json", "日本 語.json", "a\x85b.json", "a\rb.json", "a b\r",
+]  # fmt: skip
 OLD = b'{"a":[1,2],\n"b":{}}\n'
-BESIDE = ['a', 'b.json', 'b', 'a.json', 'x.json', '"a', 'a b']
+BESIDE = ["a", "b.json", "b", "a.json", "x.json", '"a', "a b"]
+PATCHING = (["patch", "-p0", "--no-backup-if-mismatch"], ["git", "apply", "-p0"])
 
 
-def fill(folder, name):
-    for other in BESIDE + [name]:
-        path = os.path.join(folder, other)
+def lacking():
+    return " ".join(it[0] for it in PATCHING if not shutil.which(it[0]))
+
+
+def fill(folder, names):
+    """Makes files that are to be laid out."""
+    for name in names:
+        path = os.path.join(os.fsencode(folder), os.fsencode(name))
         os.makedirs(os.path.dirname(path), exist_ok=True)
-        with open(path, 'wb') as file:
+        with open(path, "wb") as file:
             file.write(OLD)
 
 
 def held(folder):
-    files = {}
-    for root, _, names in os.walk(os.fsencode(folder)):
-        for name in names:
-            with open(os.path.join(root, name), 'rb') as file:
-                files[os.path.relpath(os.path.join(root, name), os.fsencode(folder))] = file.read()
-    return files
+    """The texts of the files below a folder, by their paths within it."""
+    top = os.fsencode(folder)
+    paths = [os.path.join(at, name) for at, _, names in os.walk(top) for name in names]
+    return {os.path.relpath(it, top): content(it) for it in paths}
 
 
-def run(words, folder, given=b''):
-    return subprocess.run(words, cwd=folder, input=given, capture_output=True)
-
-
-def outcome(program, name, applied):
+def outcome(program, name, patching):
+    """The files after a difference of this one was applied or, without a program for that, after it was replaced."""
     with tempfile.TemporaryDirectory() as folder:
-        fill(folder, name)
-        if applied is None:
-            run([program, '--write', '--', name], folder)
+        fill(folder, [*BESIDE, name])
+        if patching is None:
+            ran(program, b"", "--write", "--", name, folder=folder)
         else:
-            done = run(applied, folder, run([program, '--diff', '--', name], folder).stdout)
-            if done.returncode:
-                print(f'{name!r}: {applied}: {(done.stdout + done.stderr).decode(errors="replace")}')
+            ended = ran(*patching[:1], ran(program, b"", "--diff", "--", name, folder=folder).stdout, *patching[1:], folder=folder)
+            if ended.returncode:
+                print(f"{name!r}: {patching[0]}: {ended.stdout.decode(errors='replace')}{said(ended)}")
         return held(folder)
 
 
-def main():
-    program = os.path.abspath(sys.argv[1])
-    failed = 0
-    for name in NAMES:
-        wanted = outcome(program, name, None)
-        if wanted[os.fsencode(name)] == OLD:
-            failed += 1
-            print(f'{name!r}: not laid out')
-        for applied in (['patch', '-p0', '--no-backup-if-mismatch'], ['git', 'apply', '-p0']):
-            if outcome(program, name, applied) != wanted:
-                failed += 1
-                print(f'{name!r}: {applied[0]} changes something else')
+def faults_of(program, name):
+    """What is wrong with the differences of a file of this name."""
+    wanted = outcome(program, name, None)
+    faults = ["it is not laid out"] if wanted[os.fsencode(name)] == OLD else []
+    return faults + [f"{it[0]} changes something else" for it in PATCHING if outcome(program, name, it) != wanted]
+
+
+def faults_without_utf8(program):
+    """The same of a name that is not UTF-8, and of a file beside it."""
+    name, beside = b"a\xff.json", b"b.json"
     with tempfile.TemporaryDirectory() as folder:
-        for name in (b'a\xff.json', b'b.json'):
-            with open(os.path.join(os.fsencode(folder), name), 'wb') as file:
-                file.write(OLD)
-        done = run([program, '--write', b'a\xff.json', b'b.json'], folder)
-        files = held(folder)
-        if done.returncode != 3 or b'a\\xff.json' not in done.stderr or files[b'a\xff.json'] != OLD or files[b'b.json'] == OLD:
-            failed += 1
-            print(f'a name that is not UTF-8: {done}')
-    print(f'{len(NAMES)} names, {failed} failed')
-    sys.exit(failed != 0)
+        fill(folder, [name, beside])
+        ended, files = ran(program, b"", "--write", name, beside, folder=folder), held(folder)
+    is_right = ended.returncode == 3 and b"a\\xff.json" in ended.stderr and files[name] == OLD and files[beside] != OLD
+    return [] if is_right else [f"{ended}"]
 
 
-main()
+def compare(program, _):
+    faults = {name: faults_of(program, name) for name in NAMES}
+    faults["a name that is not UTF-8"] = faults_without_utf8(program)
+    for name, found in faults.items():
+        for it in found:
+            print(f"{name!r}: {it}")
+    count = sum(map(len, faults.values()))
+    return f"{len(faults)} names, {count} faults", count

@@ -1,25 +1,30 @@
-#!/usr/bin/env python3
-"""Formats TOML files, and texts made at random, and compares what python's `tomllib` reads before and after; then breaks such
-files and texts, byte by byte, and compares which the two take.
-
-usage: compare_toml.py TOMLFMT [TEXTS] [SEED] [FOLDER]..     (2,000 of each, the seed 1, and /usr and /root if none are named)
+"""TOML files, and texts made at random, before and after `tomlfmt` lays them out, as Python's tomllib reads them; then such
+files and texts broken, byte by byte, and which of them the two take.
 
 Of each file the layouts at 20, 40 and 80 columns have to read as the same value, with the same comments in the same order, and
-to be their own layouts. A text that `tomllib` refuses has to be refused, unless it is refused for a key that is defined twice,
-and a text that it takes has to be taken. Ends with status 1 where one differs; of such a text the least form found is shown.
-Python 3.11 or later. Of Debian's packages `rust-src`, `librust-toml-dev`, `python3-hatchling` and `python3-poetry-core` bring files.
+to be their own layouts. A text that tomllib refuses has to be refused, unless it is refused for a key that is defined twice,
+and a text that it takes has to be taken. Of a text with a fault the least form found is shown.
 """
-import os
+
 import random
 import re
-import subprocess
-import sys
-import tomllib
+
+from support.command import content
+from support.compare.files import files, ran, said
+
+try:
+    import tomllib
+except ImportError:
+    tomllib = None
 
 WIDTHS = ("20", "40", "80")
 # Strings of the four kinds, and comments: what a `#` is in.
 PART = re.compile(rb'"""(?:\\[\s\S]|[^\\])*?"{3,5}|\'\'\'[\s\S]*?\'{3,5}|"(?:\\.|[^"\\\n])*"|\'[^\'\n]*\'|#[^\n]*')
 TWICE = re.compile(r"Cannot (overwrite|declare|mutate|redefine|define)|Duplicate inline table key")
+
+
+def lacking():
+    return "" if tomllib else "tomllib, which Python 3.11 has,"
 
 
 def read(text):
@@ -35,30 +40,25 @@ def comments(text):
     return [it.rstrip(b" \t\r") for it in PART.findall(text) if it.startswith(b"#")]
 
 
-def run(program, text, *words):
-    return subprocess.run([program, *words], input=text, stdout=subprocess.PIPE, stderr=subprocess.PIPE)
-
-
 def fault(program, text, widths=WIDTHS):
     """What is wrong with the answers to a text, or None."""
     value, refusal = read(text)
     for width in widths:
-        ran = run(program, text, "--width", width)
-        said = ran.stderr.decode(errors="replace").strip()
-        if ran.returncode not in (0, 1):
-            return f"status {ran.returncode}: {said}"
-        if "levels of nesting" in said:
+        ended = ran(program, text, "--width", width)
+        if ended.returncode not in (0, 1):
+            return f"status {ended.returncode}: {said(ended)}"
+        if "levels of nesting" in said(ended):
             continue
         if value is None:
-            if ran.returncode == 0 and not TWICE.search(refusal):
+            if ended.returncode == 0 and not TWICE.search(refusal):
                 return f"taken, and refused by tomllib: {refusal}"
-        elif ran.returncode:
-            return f"refused: {said}"
-        elif read(ran.stdout)[0] != value:
+        elif ended.returncode:
+            return f"refused: {said(ended)}"
+        elif read(ended.stdout)[0] != value:
             return f"another value at width {width}"
-        elif comments(ran.stdout) != comments(text):
+        elif comments(ended.stdout) != comments(text):
             return f"other comments at width {width}"
-        elif run(program, ran.stdout, "--width", width).stdout != ran.stdout:
+        elif ran(program, ended.stdout, "--width", width).stdout != ended.stdout:
             return f"another layout of the layout at width {width}"
     return None
 
@@ -147,58 +147,42 @@ def broken(rng, text):
     return text
 
 
-def files(folders):
-    for folder in folders:
-        for at, _, names in sorted(os.walk(folder)):
-            yield from (f"{at}/{it}" for it in sorted(names) if it.endswith(".toml"))
+class Comparison:
+    """Counts what was found of texts, and shows each fault once for each least text."""
 
+    def __init__(self, program):
+        self.program, self.same, self.differ, self.seen = program, 0, 0, set()
 
-def report(program, name, text, found, seen):
-    """Shows a fault, once for each least text."""
-    small = least(program, text, found)
-    if small not in seen:
-        seen.add(small)
-        print(f"{name}: {found}\n    {small!r}", flush=True)
-
-
-def main():
-    program, *words = sys.argv[1:]
-    count, seed = (int(it) for it in words[:2] + ["2000", "1"][len(words[:2]) :])
-    same, differ, small, seen = 0, 0, [], set()
-    for path in files(words[2:] or ["/usr", "/root"]):
-        with open(path, "rb") as it:
-            text = it.read()
-        found = fault(program, text)
-        same, differ = same + (not found), differ + bool(found)
+    def take(self, name, text, found):
+        """Takes note of what is wrong with a text, if anything is. Whether nothing is."""
+        self.same, self.differ = self.same + (not found), self.differ + bool(found)
         if found:
-            report(program, path, text, found, seen)
-        if 0 < len(text) <= 3000:
-            small.append((path, text))
-    print(f"{same} files the same, {differ} differ", flush=True)
-    rng = random.Random(seed)
-    same, differ = 0, bool(differ)
-    for _ in range(count):
+            small = least(self.program, text, found)
+            if small not in self.seen:
+                print(f"{name}: {found}\n    {small!r}", flush=True)
+            self.seen.add(small)
+        return not found
+
+
+def compare(program, options):
+    rng, comparison, small = random.Random(options.seed), Comparison(program), []
+    for path in files(options.files, ".toml"):
+        text = content(path)
+        comparison.take(path, text, fault(program, text))
+        small += [(path, text)] if 0 < len(text) <= 3000 else []
+    of_files = comparison.same
+    for _ in range(options.texts):
         text = made_text(rng)
         value, refusal = read(text)
-        found = fault(program, text) or (None if value is not None else f"no TOML by tomllib: {refusal}")
-        same, differ = same + (not found), differ + bool(found)
-        if found:
-            report(program, "made at random", text, found, seen)
-    print(f"{same} texts made at random the same", flush=True)
-    taken, refused, twice = 0, 0, 0
-    for _ in range(count):
+        lost = None if value is not None else f"no TOML by tomllib: {refusal}"
+        comparison.take("made at random", text, fault(program, text) or lost)
+    of_texts, taken, twice = comparison.same - of_files, 0, 0
+    for _ in range(options.texts):
         path, text = rng.choice(small) if small and rng.random() < 0.5 else ("made at random", made_text(rng))
         text = broken(rng, text)
         value, refusal = read(text)
-        found = fault(program, text, ("40",))
-        differ += bool(found)
-        if found:
-            report(program, f"{path}, broken", text, found, seen)
-        else:
-            taken, refused = taken + (value is not None), refused + (value is None)
-            twice += value is None and bool(TWICE.search(refusal))
-    print(f"{taken} broken texts taken by both, {refused} refused by tomllib ({twice} for keys defined twice); {differ} differ in all")
-    return 1 if differ else 0
-
-
-sys.exit(main())
+        if comparison.take(f"{path}, broken", text, fault(program, text, ("40",))):
+            taken, twice = taken + (value is not None), twice + (value is None and bool(TWICE.search(refusal)))
+    refused = comparison.same - of_files - of_texts - taken
+    broken_texts = f"of broken ones both took {taken}, and tomllib refused {refused}, {twice} of them for keys defined twice"
+    return f"{of_files} files and {of_texts} random texts are the same; {broken_texts}; {comparison.differ} differ", comparison.differ
