@@ -1,5 +1,6 @@
 """The toolchain on the path, and how its programs are called."""
 
+import functools
 import os
 import shutil
 
@@ -14,6 +15,7 @@ def need_rt():
         raise Failed("there is no rt here: put the toolchain's folder bin on the path")
 
 
+@functools.lru_cache(maxsize=None)
 def kit():
     """The folder of the toolchain."""
     need_rt()
