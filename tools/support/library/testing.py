@@ -23,8 +23,6 @@ OUT = f"{BINDINGS}/out"
 NEEDED = {**c_library.NEEDED, "cargo": "cargo", "g++": "g++", "make": "make", "node": "nodejs"}
 # The most that one command may take.
 SECONDS = 900
-
-
 run = functools.partial(command.output, seconds=SECONDS)
 
 
@@ -45,9 +43,6 @@ def build_library():
 
 def module_in(library):
     return f"{library}/{module.NAME}"
-
-
-# The stored cases
 
 
 # From this line on cases are written as replay alone reads them.

@@ -1,9 +1,11 @@
 """Lowers a WebAssembly module whose memory has 64 bits to one of 32 bits, which all engines have.
 
 Numbers stay as they are: addresses have 64 bits in the code, and are wrapped where the memory is used. What a module may
-have is what the toolchain's compiler writes; anything else is `Unknown`. Custom sections, such as names, are left out. An
+have is what the toolchain's compiler writes; it fails at anything else. Custom sections, such as names, are left out. An
 engine checks the types of each instruction of what comes out.
 """
+
+from support.command import Failed
 
 HEAD = b"\0asm\1\0\0\0"
 CUSTOM, TYPES, FUNCTIONS, TABLES, MEMORIES, CODE, DATA = 0, 1, 3, 4, 5, 10, 11
@@ -31,8 +33,8 @@ TAKES = {**dict.fromkeys(range(0x45, 0xA7), 2), **dict.fromkeys(range(WRAP, 0xC5
 TAKES.update({**dict.fromkeys(UNARY, 1), **dict.fromkeys(LEAVES, 0), **{(MORE, it): 1 for it in CONVERSIONS}})
 
 
-class Unknown(Exception):
-    """Something that is not known here."""
+def unknown(what):
+    return Failed(f"the module is not as expected: {what}")
 
 
 class Reader:
@@ -103,7 +105,7 @@ def read_instruction(reader):
     if code == MORE:
         second = reader.number()
         if second not in (*CONVERSIONS, COPY, FILL):
-            raise Unknown(f"instruction 0xFC {second}")
+            raise unknown(f"instruction 0xFC {second}")
         return (MORE, second), bytes([MORE, second]) + reader.bytes({COPY: 2, FILL: 1}.get(second, 0))
     return code, bytes([code]) + operands(code, reader)
 
@@ -113,7 +115,7 @@ def operands(code, reader):
     if code in NUMBERS:
         numbers = [reader.number() for _ in range(NUMBERS[code])]
         if max(numbers) >= 2**32:
-            raise Unknown(f"the number {max(numbers)} after an instruction")
+            raise unknown(f"the number {max(numbers)} after an instruction")
         return b"".join(map(unsigned, numbers))
     if code in SIGNED:
         return signed(reader.signed())
@@ -122,7 +124,7 @@ def operands(code, reader):
     if code == BRANCHES:
         return vector([unsigned(reader.number()) for _ in range(reader.number())]) + unsigned(reader.number())
     if code not in BARE:
-        raise Unknown(f"instruction 0x{code:02X}")
+        raise unknown(f"instruction 0x{code:02X}")
     return b""
 
 
@@ -207,7 +209,7 @@ def items_of(section, read):
 def read_type(reader):
     """How many parameters a type of functions has."""
     if reader.byte() != 0x60:
-        raise Unknown("a type of something else than functions")
+        raise unknown("a type of something else than functions")
     parameters = reader.number()
     reader.bytes(parameters)
     reader.bytes(reader.number())
@@ -218,14 +220,14 @@ def read_memory(reader):
     """The limits of a memory of 64 bits, as those of one of 32 bits."""
     flags = reader.byte()
     if flags not in (4, 5):
-        raise Unknown(f"a memory with the flags {flags}")
+        raise unknown(f"a memory with the flags {flags}")
     return bytes([flags & 1]) + b"".join(unsigned(min(reader.number(), 65536)) for _ in range(1 + (flags & 1)))
 
 
 def read_table(reader):
     kind, flags = reader.byte(), reader.byte()
     if flags not in (0, 1):
-        raise Unknown(f"a table with the flags {flags}")
+        raise unknown(f"a table with the flags {flags}")
     return bytes([kind, flags]) + b"".join(unsigned(reader.number()) for _ in range(1 + flags))
 
 
@@ -233,17 +235,17 @@ def read_data(reader):
     """Data that is put at a constant address when the module begins."""
     kind, code = reader.number(), reader.byte()
     if (kind, code) != (0, I64_CONST):
-        raise Unknown(f"data of the kind {kind}")
+        raise unknown(f"data of the kind {kind}")
     address = reader.signed()
     if not 0 <= address < 2**31 or reader.byte() != END:
-        raise Unknown(f"data at {address}")
+        raise unknown(f"data at {address}")
     return bytes([kind, I32_CONST]) + signed(address) + bytes([END]) + sized(reader.bytes(reader.number()))
 
 
 def lowered(module):
     """The module with a memory of 32 bits."""
     if module[: len(HEAD)] != HEAD:
-        raise Unknown("a file that is no module")
+        raise unknown("a file that is no module")
     reader, sections = Reader(module, len(HEAD)), []
     while not reader.ends():
         kind = reader.byte()

@@ -72,11 +72,7 @@ def linked(code, folder):
 
 def module_of(code, folder, to):
     """Makes the module of a code at this path."""
-    wide = content(linked(for_wasm(code), folder))
-    try:
-        narrow = memory32.lowered(wide)
-    except memory32.Unknown as unknown:
-        raise Failed(f"the module is not as expected: {unknown}") from unknown
+    narrow = memory32.lowered(content(linked(for_wasm(code), folder)))
     os.makedirs(os.path.dirname(to), exist_ok=True)
     with open(to, "wb") as file:
         file.write(narrow)
