@@ -9,7 +9,8 @@ import sys
 import tempfile
 from collections import namedtuple
 
-ROOT = os.path.dirname(os.path.dirname(os.path.dirname(os.path.abspath(__file__))))
+SUPPORT = os.path.dirname(os.path.abspath(__file__))
+ROOT = os.path.dirname(os.path.dirname(SUPPORT))
 
 # What a command printed, its status, and the seconds of processor that it took.
 Measured = namedtuple("Measured", "printed status seconds")

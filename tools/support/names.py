@@ -5,7 +5,7 @@ import glob
 import os
 import re
 
-from support.command import ROOT, Reader, read
+from support.command import ROOT, SUPPORT, Reader, read
 
 NAME = r"([A-Za-z][\w'?!-]*)"
 AT_MARGIN = re.compile(rf"(?:(?:pub|unfolding|unfoldable|pattern|abbrev|record|data) )*{NAME}(?: |$)")
@@ -19,7 +19,7 @@ TYPES = {
     "proofs": ("[sp]*/**/*.antt", re.compile(rf"^(?:  )?(?:(?:pub|unfolding|unfoldable) )*(?:data|record) {NAME}", re.M)),
 }
 # The types that are known to stand for several things: the kind, the name, and in how many files.
-KNOWN = os.path.join(os.path.dirname(os.path.abspath(__file__)), "doubles.txt")
+KNOWN = f"{SUPPORT}/doubles.txt"
 
 
 def names_of(path):

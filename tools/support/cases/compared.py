@@ -9,7 +9,7 @@ from concurrent.futures import ProcessPoolExecutor
 from support import built
 from support.cases.language import Beginning, cases_of
 from support.cases.runs import after, run
-from support.command import ROOT, Reader, output
+from support.command import ROOT, SUPPORT, Reader, output
 from support.json_values import value_line
 
 CASES = f"{ROOT}/cases"
@@ -119,7 +119,7 @@ def put(path, to):
 def made_ready(names, folder, room):
     """Puts the programs, and what has calls fail, into folders of tools, one for each compiler that built them."""
     os.chmod(room, 0o711)
-    output(["gcc", "-O1", "-shared", "-fPIC", "-o", f"{room}/fail.so", f"{ROOT}/tools/shim/fail.c", "-ldl"])
+    output(["gcc", "-O1", "-shared", "-fPIC", "-o", f"{room}/fail.so", f"{SUPPORT}/cases/fail.c", "-ldl"])
     for name in names:
         for number, path in enumerate([f"{folder}/{name}"] if folder else built.builds(name)):
             put(path, f"{room}/{number}/{name}")

@@ -7,11 +7,10 @@ import shutil
 import tempfile
 
 from support import command
-from support.command import ROOT, Reader, read, write
+from support.command import ROOT, SUPPORT, Reader, read, write
 from support.examples import pages
 from support.examples.pages import Example, Items, literal
 
-HERE = os.path.dirname(os.path.abspath(__file__))
 PAGES = ("docs/GUIDE.md", "docs/LOSES_NOTHING.md")
 CRATE = "examples"
 DEPENDENCIES = (
@@ -241,7 +240,7 @@ def write_crate(folder, examples, faults):
         places[f"{module}::line_{example.line}"] = example.place
         places.update({f"src/{module}.rt:{start + it}": example.place for it in range(len(code))})
         lines += code
-    modules["outcomes"] = [read(f"{HERE}/outcomes.rt.in")]
+    modules["outcomes"] = [read(f"{SUPPORT}/examples/outcomes.rt.in")]
     modules["lib"] = ["#![tactic(auto)]", *(f"#[cfg(test)]\nmod {it};" for it in modules)]
     for module, lines in modules.items():
         write(f"{folder}/src/{module}.rt", "\n".join([*lines, ""]))

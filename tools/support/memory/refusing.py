@@ -7,8 +7,8 @@ import subprocess
 import tempfile
 from concurrent.futures import ThreadPoolExecutor
 
-from support import built
-from support.command import ROOT, Failed, Reader, content, output, run, write
+from support import built, command
+from support.command import SUPPORT, Failed, Reader, content, output, write
 from support.memory.runs import Ending, all_runs, is_right, name_of, without_table
 
 # The most that one run may take. They take some milliseconds.
@@ -30,7 +30,7 @@ CHECKED_RUN = re.compile(r"^== (\d+)\n(.*?)(?:^allocations: [^\n]*\n)?^case=\1 r
 def shim_in(folder):
     """Compiles the library that refuses."""
     path = f"{folder}/refuse.so"
-    output(["cc", "-O2", "-shared", "-fPIC", "-o", path, f"{ROOT}/tools/shim/refuse.c"])
+    output(["cc", "-O2", "-shared", "-fPIC", "-o", path, f"{SUPPORT}/memory/refuse.c"])
     return path
 
 
@@ -115,7 +115,7 @@ def checked_runs():
         for count in counts:
             write(f"{folder}/{count}", str(count))
         words = ["rt", "try", "--steps", "1", "--cases", folder, "--fail-alloc", str(CHECKED)]
-        tried, status = run(words, built.folder_of("test_refusals"))
+        tried, status = command.run(words, built.folder_of("test_refusals"))
     runs = {int(count): (printed, ended) for count, printed, ended in CHECKED_RUN.findall(tried)}
     if status or len(runs) != CHECKED:
         raise Failed(f"{len(runs)} runs of {CHECKED}, status {status}", tried)

@@ -4,7 +4,7 @@ import re
 from collections import namedtuple
 
 from support import built
-from support.command import ROOT, content
+from support.command import SUPPORT, content
 
 # How a run ends: its status, what it writes, what it says on standard error, and the files that then stand in its folder.
 Ending = namedtuple("Ending", "status out said files")
@@ -82,7 +82,7 @@ def groups(end):
 
 def stored(name):
     """Each case of a file, and its outcome."""
-    lines = content(f"{ROOT}/tools/shim/{name}.cases").decode().splitlines()
+    lines = content(f"{SUPPORT}/memory/{name}.cases").decode().splitlines()
     return [tuple(line.split(" => ")) for line in lines if not line.startswith("#")]
 
 
