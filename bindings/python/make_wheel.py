@@ -30,7 +30,7 @@ PLACES = runpy.run_path(os.path.join(HERE, NAME, "_places.py"))
 EPOCH = (1980, 1, 1, 0, 0, 0)
 # The C library of manylinux2014, which older versions of pip know, is 2.17.
 OLDEST_GLIBC = 17
-# What pkg-config shows of an installed library that was built without its proofs (tools/prefix.py).
+# What pkg-config shows of an installed library that was built without its proofs (tools/support/install/prefix.py).
 WITHOUT_PROOFS = b"built without its proofs"
 
 

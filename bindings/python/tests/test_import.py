@@ -24,11 +24,11 @@ class Import(unittest.TestCase):
         self.folder = os.path.realpath(folder.name)
         self.library = _library._path()
 
-    def copy(self, *places):
-        """A copy of the package in a folder of the temporary one."""
-        package = os.path.join(self.folder, *places, "yezhgulo")
-        shutil.copytree(os.path.join(HERE, "yezhgulo"), package, ignore=shutil.ignore_patterns("*.so", "__pycache__"))
-        return os.path.join(package, "__init__.py")
+    def copied(self):
+        """A folder within the temporary one that has a copy of the package."""
+        site, left_out = os.path.join(self.folder, "site"), shutil.ignore_patterns("*.so", "__pycache__")
+        shutil.copytree(os.path.join(HERE, "yezhgulo"), os.path.join(site, "yezhgulo"), ignore=left_out)
+        return site
 
     def run_program(self, library="", path="", program=PROGRAM):
         """The status of the program, run in the temporary folder without installed libraries, and what it writes."""
@@ -38,18 +38,8 @@ class Import(unittest.TestCase):
         done = subprocess.run(words, env=environment, cwd=self.folder, **written)
         return done.returncode, done.stdout.splitlines(), done.stderr
 
-    def test_beside_a_checkout(self):
-        package = self.copy("yezhgulo", "bindings", "python")
-        shutil.copy(os.path.join(REPOSITORY, "__init__.py"), os.path.join(self.folder, "yezhgulo"))
-        self.assertEqual(self.run_program(self.library), (0, [package, "a", "b"], ""))
-        # An installed package is taken before it.
-        installed = self.copy("site")
-        path = os.path.join(self.folder, "site")
-        self.assertEqual(self.run_program(self.library, path), (0, [installed, "a", "b"], ""))
-
     def test_an_installed_library(self):
-        self.copy("site")
-        path = os.path.join(self.folder, "site")
+        path = self.copied()
         os.makedirs(os.path.join(self.folder, ".local", "lib"))
         shutil.copy(self.library, os.path.join(self.folder, ".local", "lib", _places.SONAME))
         self.assertEqual(self.run_program(path=path)[0], 0)
@@ -60,9 +50,9 @@ class Import(unittest.TestCase):
             self.assertEqual((status, shown), (1, []))
             [said] = [it for it in complaint.splitlines() if it.startswith("ImportError: ")]
             self.assertIn("tools/install library", said)
-        self.copy("site")
+        path = self.copied()
         if not any(map(os.path.exists, _places.installed()[1:])):
-            status, shown, complaint = self.run_program(path=os.path.join(self.folder, "site"))
+            status, shown, complaint = self.run_program(path=path)
             self.assertEqual(status, 1)
             self.assertIn("ImportError: yezhgulo found no libprettyless.so: run `tools/install library`", complaint)
 
@@ -74,7 +64,7 @@ class Import(unittest.TestCase):
         self.assertIn("tools/install library", complaint)
 
     def test_the_library_has_one_name(self):
-        with open(os.path.join(REPOSITORY, "tools", "c_library.py"), encoding="utf-8") as file:
+        with open(os.path.join(REPOSITORY, "tools", "support", "library", "c_library.py"), encoding="utf-8") as file:
             self.assertIn(f'SONAME = f"{{SHARED}}{_places.SONAME[len(_places.FILE):]}"', file.read())
 
 

@@ -1,0 +1,1 @@
+"""tools/compare: the formatters and the printer against other programs, and against rules written down once more."""

@@ -1,0 +1,45 @@
+"""The comparisons, and the command that makes them."""
+
+import os
+
+from support import built
+from support.command import Reader
+from support.compare import faults, layouts, patches, toml, values
+
+# Each with the program that it runs, if it runs one. It has `lacking`, which names a peer that is missing here, and `compare`,
+# which takes the program and the options, prints each difference, and answers a line and how many differences there were.
+COMPARISONS = {
+    "values": ("jsonfmt", values),
+    "faults": ("jsonfmt", faults),
+    "toml": ("tomlfmt", toml),
+    "patches": ("jsonfmt", patches),
+    "layouts": (None, layouts),
+}
+
+
+def compared(name, options):
+    """How many differences a comparison found. It prints its line."""
+    program, comparison = COMPARISONS[name]
+    lacking = comparison.lacking()
+    if lacking:
+        print(f"compare: {name} is passed over: there is no {lacking} here", flush=True)
+        return 0
+    if program:
+        program = os.path.abspath(f"{options.programs}/{program}") if options.programs else built.program(program)
+    line, differences = comparison.compare(program, options)
+    print(f"compare: {name}: {line}", flush=True)
+    return differences
+
+
+def main(about):
+    reader = Reader(about)
+    reader.add_argument("--programs")
+    reader.add_argument("--files", action="append")
+    reader.add_argument("--texts", type=int, default=2000)
+    reader.add_argument("--seed", type=int, default=1)
+    reader.add_argument("names", nargs="*")
+    options = reader.parse_args()
+    options.files = options.files or ["/usr", "/root"]
+    if not set(options.names) <= set(COMPARISONS):
+        reader.error(f"the comparisons are {', '.join(COMPARISONS)}")
+    return 1 if sum(compared(it, options) for it in options.names or COMPARISONS) else 0

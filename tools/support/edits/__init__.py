@@ -1,0 +1,1 @@
+"""tools/edits: wrong bodies, and what the check says of them."""

@@ -1,0 +1,1 @@
+"""tools/examples: the examples of pages and of comments, as tests of a crate."""

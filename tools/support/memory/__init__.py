@@ -1,0 +1,1 @@
+"""tools/refuse_memory: runs of programs that are refused memory."""
