@@ -7,8 +7,8 @@ from support.command import read
 
 # What a try of an edit comes to. tools/edits says what each means.
 CLAUSE, OWN_CODE, NAME, PROVED, UNJUDGED = "clause", "own code", "name", "proved", "not judged"
-UNCOMPILED, UNAPPLIED, UNBORROWED, COMPILED = "does not compile", "does not apply", "borrow error", "compiles"
-RESULTS = (CLAUSE, UNBORROWED, OWN_CODE, NAME, UNCOMPILED, UNAPPLIED, PROVED, COMPILED, UNJUDGED)
+UNCOMPILED, UNAPPLIED, FORBIDDEN, COMPILED = "does not compile", "does not apply", "forbidden", "compiles"
+RESULTS = (CLAUSE, FORBIDDEN, OWN_CODE, NAME, UNCOMPILED, UNAPPLIED, PROVED, COMPILED, UNJUDGED)
 
 # What the check prints: of a function, of a goal that is open, and of an answer that is refused.
 VERDICT = re.compile(r"fn (\S+): (.*)", re.S)

@@ -11,11 +11,11 @@ from concurrent.futures import ThreadPoolExecutor
 from support.command import ROOT, Failed, Reader, at_once, measured, output, run
 from support.crates import below, crates_of, is_newer, with_below
 from support.edits.places import Copy, Edit, named_among, paths_of
-from support.edits.results import CLAUSE, COMPILED, NAME, OWN_CODE, RESULTS, TOLD, UNAPPLIED, UNBORROWED, UNCOMPILED, UNJUDGED
+from support.edits.results import CLAUSE, COMPILED, NAME, OWN_CODE, RESULTS, TOLD, UNAPPLIED, FORBIDDEN, UNCOMPILED, UNJUDGED
 from support.edits.results import Said, told_clause
 from support.toolchain import need_rt, prover
 
-OTHERS, GATE, BORROWS = "edits", "must-fail", "must-not-compile"
+OTHERS, GATE, FORBIDS = "edits", "must-fail", "must-not-compile"
 # How many edits may say why no clause refuses them.
 MOST_EXCUSED = 30
 # What one check may take, in bytes.
@@ -26,7 +26,7 @@ PRINTING = threading.Lock()
 
 # What the check prints where it did not reach the prover: for code that does not compile, and for a library that does not fit.
 NO_CODE = re.compile(r"\berror\[[\w-]+\]")
-NO_BORROW = re.compile(r"\berror\[borrow-[\w-]+\]")
+NO_OWNER = re.compile(r"\berror\[(?:borrow-[\w-]+|private-field)\]")
 NO_PATH = re.compile(r"rattle: error: `[^`]*` has no function `([^`]+)`|rattle: error: `([^`]+)` fits")
 NO_FIT = re.compile(r"module .Rattle-(\w+)-.*Run the lower steps again")
 NO_PLACE = (UNAPPLIED, "it has no pair, or an `old:` text that does not stand in its file once")
@@ -53,7 +53,7 @@ class Trial:
             self.kept = f"{folder}/kept"
             self.begin()
             for edit in self.edits:
-                if edit.folder == BORROWS:
+                if edit.folder == FORBIDS:
                     self.results[edit] = self.compiled(edit, f"{folder}/{COPY}{edit.name}")
             left = [it for it in self.edits if it not in self.results]
             while left:
@@ -61,15 +61,15 @@ class Trial:
         return self
 
     def compiled(self, edit, folder):
-        """What an edit comes to whose types and borrows alone are checked."""
+        """What an edit comes to whose types, borrows and private fields alone are checked."""
         copy = Copy(self.crate, folder)
         if not copy.take(edit):
             return NO_PLACE
         copy.write()
         printed, status, seconds = measured([*self.words, "--only", ""], copy.folder)
         self.seconds += seconds
-        if NO_BORROW.search(printed):
-            return UNBORROWED, first_error(printed)
+        if NO_OWNER.search(printed):
+            return FORBIDDEN, first_error(printed)
         return (UNCOMPILED if NO_CODE.search(printed) else UNJUDGED if status else COMPILED), first_error(printed)
 
     def begin(self):
@@ -156,8 +156,8 @@ def first_error(printed):
 
 def may_come_to(edit, result):
     """Whether an edit may come to this."""
-    if edit.folder == BORROWS:
-        return result == UNBORROWED
+    if edit.folder == FORBIDS:
+        return result == FORBIDDEN
     is_excused = edit.folder == OTHERS and edit.why and result in (OWN_CODE, NAME)
     return result == CLAUSE or bool(is_excused)
 
@@ -190,7 +190,7 @@ def report(trial, show):
     lines = [f"{trial.crate.name}: {len(trial.edits)} edits, {len(trial.bad())} bad; {trial.rounds} rounds, {seconds}"]
     for edit in trial.edits:
         result, why = trial.results[edit]
-        if show or result not in (CLAUSE, UNBORROWED):
+        if show or result not in (CLAUSE, FORBIDDEN):
             excuse = f" (its file says why: {edit.why})" if may_come_to(edit, result) and edit.why else ""
             lines.append(f"  {os.path.relpath(edit.path, ROOT)}: {result}: {why}{excuse}")
     say("\n".join(lines))
@@ -206,7 +206,7 @@ def asked(about):
     reader.add_argument("--jobs", type=int, default=at_once(MEMORY))
     reader.add_argument("--show", action="store_true")
     options, crates = reader.parse_args(), crates_of()
-    folders = (GATE, BORROWS) if options.gate else (GATE, OTHERS, BORROWS) if options.all else (OTHERS,)
+    folders = (GATE, FORBIDS) if options.gate else (GATE, OTHERS, FORBIDS) if options.all else (OTHERS,)
     lacking = [it for it in options.names if it not in crates or not edits_of(crates[it], folders)]
     if lacking:
         raise Failed(f"{' '.join(lacking)}: crates.txt names no such crate, or it has no edits")
