@@ -1,7 +1,9 @@
+pub mod Ledger
 pub mod DocTree
 pub mod Parts
 pub mod Rendering
 pub mod Shown
+pub mod Streams
 pub use Rattle.prettyless_trees.specs.Breaks
 pub use Rattle.prettyless_trees.specs.Counted
 pub use Rattle.prettyless_trees.specs.Lines

@@ -6,13 +6,16 @@ ghost use Rattle.prettyless_model.specs.Layout.{layout, whole_bytes};
 ghost use Rattle.prettyless_doc.specs.DocTree.{tree_of};
 
 use crate::doc::{Doc, DocPtr};
+use crate::formatter_sink::FormatterSink;
 use prettyless_model::options::RenderOptions;
 use std::alloc::Global;
 use std::fmt;
+use std::snapshot::Snapshot;
 
 /// A document that prints as its layout. What a formatter is asked for, as a width or an alignment, changes nothing.
 ///
-/// It prints the whole layout or fails: where the document fails, memory is refused or the formatter fails.
+/// The layout is passed on to the formatter piece by piece, and not kept. It prints the whole layout or fails: where the
+/// document fails, memory is refused or the formatter fails. Then some of it may be printed.
 #[derive(Clone, Copy)]
 pub struct PrettyFmt<'a, 'd, T> {
     doc: &'d Doc<'a, T>,
@@ -66,12 +69,14 @@ impl<'a, T: DocPtr<'a>> fmt::Display for PrettyFmt<'a, '_, T> {
             (whole_bytes (layout self.now.options (tree_of T.tree self.now.doc.now))) f.new }
         ensures whole { IsOk result → IsSome (whole_bytes (layout self.now.options (tree_of T.tree self.now.doc.now))) }
     {
-        let mut text = String::new(self.alloc);
-        match self
+        let start = Snapshot::of(&*f);
+        let mut sink = FormatterSink::new(f, &start);
+        let result = self
             .doc
-            .render_fmt_with(self.alloc, self.options, &mut text)
-        {
-            Ok(()) => f.write_str(text.as_str()),
+            .render_raw_with(self.alloc, self.options, &mut sink);
+        sink.streams();
+        match result {
+            Ok(()) => Ok(()),
             Err(_) => Err(fmt::Error),
         }
     }
