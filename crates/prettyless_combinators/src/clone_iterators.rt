@@ -15,7 +15,7 @@ use std::{array, option, slice, str, vec};
 /// An iterator of which a clone can be walked if the iterator can be, and ends if the iterator does. Of such iterators
 /// `Concat` and `Intersperse` are `Clone`.
 ///
-/// It has two laws and no call. For an iterator whose `Clone` is derived, or is a copy, the `impl` is
+/// It has two laws and no call. For an iterator whose `Clone` is derived, the `impl` mostly is
 ///
 /// ```
 /// impl CloneIterator for Lines {
