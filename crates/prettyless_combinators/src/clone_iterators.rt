@@ -1,7 +1,7 @@
 //! Iterators whose clones are known to end.
 //!
-//! `Clone` says nothing in general of a clone of an iterator, so a trait says it, and each iterator of `std` whose clone says
-//! enough has that trait. `Peekable` has not, as its clone says nothing, and no iterator that calls a closure has.
+//! `Clone` alone says nothing of a clone of an iterator, so a trait does, with an `impl` for iterators of `std` that give what
+//! becomes documents. There is none for iterators that call a closure, nor for `Peekable`, of whose clone nothing is known.
 ghost use Rattle.std.specs.Iterator.{IsFinite};
 ghost use Rattle.std.proofs.Common.{rules};
 
@@ -15,7 +15,7 @@ use std::{array, option, slice, str, vec};
 /// An iterator of which a clone can be walked if the iterator can be, and ends if the iterator does. Of such iterators
 /// `Concat` and `Intersperse` are `Clone`.
 ///
-/// It has two laws and no call. An `impl` for an iterator whose `is_clone` compares what the iterator holds is
+/// It has two laws and no call. For an iterator whose `Clone` is derived, the `impl` mostly is
 ///
 /// ```
 /// impl CloneIterator for Lines {
