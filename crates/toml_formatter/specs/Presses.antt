@@ -3,6 +3,7 @@ use Rattle.std.specs.Prelude.{◌≡◌, ℕ, Bool, true, false, List, [], ◌++
 use Rattle.prettyless_trees.specs.Built.{append}
 use Rattle.prettyless_model.specs.Tree.{Tree, HardLine}
 use Rattle.prettyless_model.specs.declared.options.RenderOptions.{RenderOptions}
+use Rattle.prettyless_laws.specs.InTurn.{AreLines}
 use Rattle.toml_lexemes.specs.Lexemes.{toml_lexemes_of}
 use Rattle.toml_grammar.specs.Nesting.{max_brackets}
 use Rattle.toml_formatter.specs.Depths.{TakesWithin}
