@@ -1,3 +1,3 @@
-mod Accounts
+mod Ledgers
 mod Rendered
 mod Streaming
