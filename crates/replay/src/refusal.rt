@@ -1,21 +1,20 @@
-use crate::expected::Expected;
 use hex::FromHexError;
-use prettyless_doc::BuildError;
+use prettyless_doc::text::BuildError;
 use std::alloc::{AllocError, AllocFailed};
 
 /// Why a line has no outcome.
-#[derive(Debug, Drop)]
+#[derive(Drop)]
 pub enum Refusal {
-    /// It writes no case.
-    NotACase(Expected),
+    /// It writes no case: what was expected.
+    NotACase(&'static str),
     /// Memory was refused.
     OutOfMemory,
     /// Its case comes out otherwise than it states, or than it has to: how it does.
     Differs(String),
 }
 
-impl From<Expected> for Refusal {
-    fn from(expected: Expected) -> Refusal {
+impl From<&'static str> for Refusal {
+    fn from(expected: &'static str) -> Refusal {
         Refusal::NotACase(expected)
     }
 }
@@ -43,7 +42,7 @@ impl From<FromHexError> for Refusal {
     fn from(error: FromHexError) -> Refusal {
         match error {
             FromHexError::OutOfMemory => Refusal::OutOfMemory,
-            _ => Refusal::NotACase(Expected::Text),
+            _ => Refusal::NotACase(crate::text::TEXT),
         }
     }
 }

@@ -1,8 +1,10 @@
 //! Texts as words: in hexadecimal with two digits for each byte, and `-` for no byte, or in quotes.
-use crate::expected::Expected;
 use crate::refusal::Refusal;
 use prettyless_doc::text::CowStr;
 use std::alloc::{AllocError, Global};
+
+/// What a text is expected to be.
+pub const TEXT: &str = "a text in hexadecimal, lower case, or in quotes, or -";
 
 /// The word that writes these bytes in hexadecimal.
 pub fn word_of(alloc: Global, bytes: &[u8]) -> Result<String, AllocError> {
@@ -13,32 +15,28 @@ pub fn word_of(alloc: Global, bytes: &[u8]) -> Result<String, AllocError> {
     }
 }
 
-// The bytes that the digits write, in upper case too, or none for `-`.
-fn decoded(alloc: Global, word: &[u8]) -> Result<Vec<u8>, Refusal> {
-    if word == b"-".as_slice() {
-        return Ok(Vec::new(alloc));
+/// Adds a text to words in hexadecimal.
+pub fn push_word(alloc: Global, words: &mut String, text: &str) -> Result<(), AllocError> {
+    if !words.is_empty() {
+        words.push(' ')?;
     }
-    Ok(hex::decode(alloc, word)?)
+    words.push_str(word_of(alloc, text.as_bytes())?.as_str())
+}
+
+/// Words that begin with this one.
+pub fn labelled(alloc: Global, label: &str, words: &str) -> Result<String, AllocError> {
+    format!(in alloc; "{label} {words}")
 }
 
 // The text of a word in hexadecimal.
 fn hexadecimal(alloc: Global, word: &[u8]) -> Result<String, Refusal> {
-    let bytes = decoded(alloc, word)?;
+    let digits = if word == b"-".as_slice() { &[] } else { word };
+    let bytes = hex::decode(alloc, digits)?;
     // Upper case letters, or no digit at all, write no text.
     if word_of(alloc, &bytes)?.as_bytes() != word {
-        return Err(Refusal::NotACase(Expected::Text));
+        return Err(Refusal::NotACase(TEXT));
     }
-    String::from_utf8(bytes).map_err(|_| Refusal::NotACase(Expected::Text))
-}
-
-// The character that a backslash and this one write.
-fn escaped(letter: char) -> Result<char, Expected> {
-    match letter {
-        'n' => Ok('\n'),
-        'r' => Ok('\r'),
-        '"' | '\\' => Ok(letter),
-        _ => Err(Expected::Text),
-    }
+    String::from_utf8(bytes).map_err(|_| Refusal::NotACase(TEXT))
 }
 
 // The text between quotes, with what its backslashes stand for.
@@ -47,17 +45,17 @@ fn unescaped(alloc: Global, quoted: &str) -> Result<String, Refusal> {
     let mut is_escaped = false;
     for letter in quoted.chars() {
         match (is_escaped, letter) {
-            (false, '\\') => is_escaped = true,
-            (false, '"') => return Err(Refusal::NotACase(Expected::Text)),
+            (false, '\\') => {}
+            (true, 'n') => text.push('\n')?,
+            (true, 'r') => text.push('\r')?,
+            (true, '"' | '\\') => text.push(letter)?,
+            (true, _) | (false, '"') => return Err(Refusal::NotACase(TEXT)),
             (false, _) => text.push(letter)?,
-            (true, _) => {
-                text.push(escaped(letter)?)?;
-                is_escaped = false;
-            }
         }
+        is_escaped = !is_escaped && letter == '\\';
     }
     if is_escaped {
-        return Err(Refusal::NotACase(Expected::Text));
+        return Err(Refusal::NotACase(TEXT));
     }
     Ok(text)
 }
@@ -72,6 +70,6 @@ pub fn text<'a>(alloc: Global, word: &'a [u8]) -> Result<CowStr<'a>, Refusal> {
             Ok(CowStr::Owned(unescaped(alloc, quoted)?))
         }
         Ok(quoted) => Ok(CowStr::Borrowed(quoted)),
-        Err(_) => Err(Refusal::NotACase(Expected::Text)),
+        Err(_) => Err(Refusal::NotACase(TEXT)),
     }
 }

@@ -1,8 +1,8 @@
 //! The words of a line, and those that `repeat` stands before.
-use crate::expected::Expected;
-use crate::number::number;
 use crate::refusal::Refusal;
 use std::alloc::{AllocError, Global};
+use std::slice::Iter;
+use std::str::{FromStr, from_utf8};
 
 // Where a byte of a line is: outside of quotes, in quotes, or after a backslash in quotes.
 #[derive(Clone, Copy, PartialEq, Eq)]
@@ -24,64 +24,60 @@ impl Stand {
     }
 }
 
-// The words of a line, with a space between each two. A space in quotes is part of its word.
-fn words<'a>(alloc: Global, line: &'a [u8]) -> Result<Vec<&'a [u8]>, AllocError> {
-    let mut words = Vec::new(alloc);
-    let mut start = 0;
+/// The words of a line, with a space between each two. A space in quotes is part of its word.
+pub fn words(alloc: Global, line: &[u8]) -> Result<Vec<&[u8]>, AllocError> {
     let mut stand = Stand::Outside;
-    for end in 0..line.len() {
-        if line[end] == b' ' && stand == Stand::Outside {
-            words.push(&line[start..end])?;
-            start = end + 1;
-        }
-        stand = stand.after(line[end]);
-    }
-    words.push(&line[start..])?;
-    Ok(words)
+    let words = line.split(|byte| {
+        let ends = *byte == b' ' && stand == Stand::Outside;
+        stand = stand.after(*byte);
+        ends
+    });
+    Ok(words.collect(alloc)?)
 }
 
-/// The words of a line: those of its case, and those of what it states, which come after the first `=>`.
-#[derive(Drop)]
-pub struct Line<'a> {
-    pub case: Vec<&'a [u8]>,
-    pub stated: Option<Vec<&'a [u8]>>,
+/// Takes the next word, which is expected to be this.
+pub fn next_word<'a>(
+    words: &mut Iter<'_, &'a [u8]>,
+    expected: &'static str,
+) -> Result<&'a [u8], Refusal> {
+    Ok(words.next().copied().ok_or(expected)?)
 }
 
-impl<'a> Line<'a> {
-    /// The words of this line.
-    pub fn new(alloc: Global, line: &'a [u8]) -> Result<Self, AllocError> {
-        let words = words(alloc, line)?;
-        match words.iter().position(|word| *word == b"=>".as_slice()) {
-            Some(at) => Ok(Line {
-                case: words[..at].to_vec(alloc)?,
-                stated: Some(words[at + 1..].to_vec(alloc)?),
-            }),
-            None => Ok(Line {
-                case: words,
-                stated: None,
-            }),
-        }
+/// The number that decimal digits write, after a minus where it may be negative, if it has room. A plus is no digit, and neither is a
+/// space.
+pub fn number<T: FromStr>(word: &[u8], expected: &'static str) -> Result<T, Refusal>
+where
+    T::Err: Drop,
+{
+    match from_utf8(word) {
+        Ok(digits) if !digits.starts_with('+') => Ok(digits.parse().map_err(|_| expected)?),
+        _ => Err(Refusal::NotACase(expected)),
     }
+}
+
+/// Takes the next word, which is expected to be this number.
+pub fn take_number<T: FromStr>(
+    words: &mut Iter<'_, &[u8]>,
+    expected: &'static str,
+) -> Result<T, Refusal>
+where
+    T::Err: Drop,
+{
+    number(next_word(words, expected)?, expected)
 }
 
 // The most times that words are repeated.
 const MOST_TIMES: usize = 1_000_000;
 
-fn times(word: &[u8]) -> Result<usize, Expected> {
-    number::<usize>(word)
-        .filter(|times| *times <= MOST_TIMES)
-        .ok_or(Expected::Times)
-}
+const TIMES: &str = "a number of times in decimal, at most 1000000";
 
-fn push_times<'a>(
-    all: &mut Vec<&'a [u8]>,
-    words: &[&'a [u8]],
-    times: usize,
-) -> Result<(), AllocError> {
-    for _ in 0..times {
-        all.extend_from_slice(words)?;
+fn times(word: &[u8]) -> Result<usize, Refusal> {
+    let times = number(word, TIMES)?;
+    if times <= MOST_TIMES {
+        Ok(times)
+    } else {
+        Err(Refusal::NotACase(TIMES))
     }
-    Ok(())
 }
 
 /// The words, with those between `repeat N [` and `]` as often as it says.
@@ -93,8 +89,8 @@ pub fn repeated<'a>(alloc: Global, words: &[&'a [u8]]) -> Result<Vec<&'a [u8]>, 
             [] => break,
             [b"repeat", count, b"[", after @ ..] => {
                 let end = after.iter().position(|word| *word == b"]".as_slice());
-                let end = end.ok_or(Expected::RepeatEnd)?;
-                push_times(&mut all, &after[..end], times(count)?)?;
+                let end = end.ok_or("] after the words that are repeated")?;
+                all.extend_from_slice(&after[..end].repeat(alloc, times(count)?)?)?;
                 rest = &after[end + 1..];
             }
             [word, after @ ..] => {

@@ -39,6 +39,7 @@ are Rust's, and \xHH any byte. Lines below a field are a text too: after "| ", w
     room                         greatest size of a file
     again: yes                   standard output, as input, is written again
     texts                        a folder of standard inputs
+    random: SEED COUNT           standard input is so many random cases (tools/support/cases/random_cases.py)
     value                        standard output has the input's value: yes, or on one line
     takes                        most bytes a read or write takes
     calls                        calls on files, in order
@@ -54,6 +55,7 @@ import glob
 import os
 import re
 
+from support.cases.random_cases import random_cases
 from support.command import Failed
 
 STRING = r'"(?:[^"\\]|\\.)*"'
@@ -148,6 +150,11 @@ def names_of(written):
     return written.split()
 
 
+def random_of(written):
+    """The random cases of a seed, and as many as are written."""
+    return random_cases(*map(int, written.split())).encode()
+
+
 def failure_of(written):
     """A status and a message."""
     status, message = VALUE.findall(written)
@@ -155,7 +162,7 @@ def failure_of(written):
 
 
 # How what stands behind each kind of field is read.
-READERS = {"words": words_of, "failure": failure_of}
+READERS = {"words": words_of, "failure": failure_of, "random": random_of}
 READERS.update({it: names_of for it in ("calls", "changes", "fails", "passed over", "rows")})
 READERS.update({it: text_of for it in ("stdin", "stdout", "stderr", "file", "pipe", "new")})
 READERS.update({it: int for it in ("status", "takes", "room")})
@@ -263,6 +270,8 @@ def cases_of(path, program):
 
 def with_texts(case, folder):
     """The case, or one for each file of the folder that its field `texts` names, whose text is standard input."""
+    if case["random"]:
+        return [case.having(case.place, {"stdin": case["random"]})]
     if not case["texts"]:
         return [case]
     cases = []

@@ -118,7 +118,7 @@ def without_table(out):
 def all_runs():
     cases = stored("replay") + over_tables()
     hostile = [replaying(["--hostile"], [case]) for case in stored("hostile")]
-    return [replaying([], cases), replaying(["--twice"], cases), *hostile, *FORMATTING, building()]
+    return [replaying([], cases), *hostile, *FORMATTING, building()]
 
 
 # How a run may end
