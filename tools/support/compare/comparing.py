@@ -6,27 +6,26 @@ from support import built
 from support.command import Reader
 from support.compare import faults, layouts, patches, toml, values
 
-# Each with the program that it runs, if it runs one. It has `lacking`, which names a peer that is missing here, and `compare`,
-# which takes the program and the options, prints each difference, and answers a line and how many differences there were.
+# Of each the peer that is missing here, if one is, the program that it runs, if it runs one, and the call that compares. That
+# takes the program and the options, prints each difference, and answers a line and how many differences there were.
 COMPARISONS = {
-    "values": ("jsonfmt", values),
-    "faults": ("jsonfmt", faults),
-    "toml": ("tomlfmt", toml),
-    "patches": ("jsonfmt", patches),
-    "layouts": (None, layouts),
+    "values": ("", "jsonfmt", values.compare),
+    "faults": ("", "jsonfmt", faults.compare),
+    "toml": (toml.LACKING, "tomlfmt", toml.compare),
+    "patches": (patches.LACKING, "jsonfmt", patches.compare),
+    "layouts": ("", None, layouts.compare),
 }
 
 
 def compared(name, options):
     """How many differences a comparison found. It prints its line."""
-    program, comparison = COMPARISONS[name]
-    lacking = comparison.lacking()
+    lacking, program, compare = COMPARISONS[name]
     if lacking:
         print(f"compare: {name} is passed over: there is no {lacking} here", flush=True)
         return 0
     if program:
         program = os.path.abspath(f"{options.programs}/{program}") if options.programs else built.program(program)
-    line, differences = comparison.compare(program, options)
+    line, differences = compare(program, options)
     print(f"compare: {name}: {line}", flush=True)
     return differences
 

@@ -14,10 +14,6 @@ LEAVES = ["1", '"s"', "true", "null", "-2.5e3"]
 PIECES = ["{", "}", "[", "]", ",", ":", '"a"', "1", "true", " ", "\n", "é", "01", '"x', "1e", "nul", "\\"]
 
 
-def lacking():
-    return ""
-
-
 def text_of(depth):
     """A JSON text that is at most so deep."""
     kind = random.random()

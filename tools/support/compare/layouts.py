@@ -12,10 +12,6 @@ LINE, LINE_ = ("either", BREAK, SPACE), ("either", BREAK, NIL)
 CONSTANTS = [NIL, BREAK, SPACE, WEAK, LINE, LINE_]  # an arena places none of these
 
 
-def lacking():
-    return ""
-
-
 def text(s):
     return ("text", s)
 

@@ -20,10 +20,8 @@ NAMES = [
 OLD = b'{"a":[1,2],\n"b":{}}\n'
 BESIDE = ["a", "b.json", "b", "a.json", "x.json", '"a', "a b"]
 PATCHING = (["patch", "-p0", "--no-backup-if-mismatch"], ["git", "apply", "-p0"])
-
-
-def lacking():
-    return " ".join(it[0] for it in PATCHING if not shutil.which(it[0]))
+# What is missing here.
+LACKING = " ".join(it[0] for it in PATCHING if not shutil.which(it[0]))
 
 
 def fill(folder, names):

@@ -17,14 +17,12 @@ try:
 except ImportError:
     tomllib = None
 
+# What is missing here.
+LACKING = "" if tomllib else "tomllib, which Python 3.11 has,"
 WIDTHS = ("20", "40", "80")
 # Strings of the four kinds, and comments: what a `#` is in.
 PART = re.compile(rb'"""(?:\\[\s\S]|[^\\])*?"{3,5}|\'\'\'[\s\S]*?\'{3,5}|"(?:\\.|[^"\\\n])*"|\'[^\'\n]*\'|#[^\n]*')
 TWICE = re.compile(r"Cannot (overwrite|declare|mutate|redefine|define)|Duplicate inline table key")
-
-
-def lacking():
-    return "" if tomllib else "tomllib, which Python 3.11 has,"
 
 
 def read(text):

@@ -12,10 +12,6 @@ from support.compare.files import files, ran, said
 WIDTHS = ("20", "80")
 
 
-def lacking():
-    return ""
-
-
 def value(text):
     """What Python reads, with numbers and names as they are spelled."""
     word = lambda spelled: ("number", spelled)  # noqa: E731
