@@ -7,12 +7,12 @@ use Rattle.std.proofs.lemmas.Bool.{cases_Bool}
 use Rattle.json.specs.Json.{Json}
 use Rattle.json.specs.Word.{head, ends_word}
 use Rattle.json_validity.specs.Document.{document, max_depth}
-use Rattle.json_lexemes.specs.Grammar as g
-use Rattle.json_lexemes.specs.Grammar.{SpellValue}
 use Rattle.json_lexemes.specs.Lexemes.{lexemes}
 use Rattle.json_lexemes.specs.SpacedLexemes.{Spaced, after_gap, lexemes_of, spaced_lexemes}
-use Rattle.json_lexemes.proofs.Grammar.{spell_document}
 use Rattle.json_lexemes.proofs.SpacedLexemes.{spaced_are_lexemes}
+use Rattle.json_grammar.specs.Grammar as g
+use Rattle.json_grammar.specs.Grammar.{SpellValue}
+use Rattle.json_grammar.proofs.Grammar.{spell_document}
 use Rattle.json_formatter.specs.Documents.{lexeme_of, next_is, opens}
 use Rattle.json_formatter.specs.Flat.{is_mark}
 use Rattle.json_formatter.specs.Pieces.{begins_line, lexemes_of_pieces, piece, text_pieces, pieces_of}

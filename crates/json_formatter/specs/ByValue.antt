@@ -4,8 +4,8 @@ use Rattle.std.specs.Prelude.{if◌then◌else◌}
 use Rattle.json.specs.Ascii as ascii
 use Rattle.json.specs.Json.{Json}
 use Rattle.json_validity.specs.Document.{document, max_depth}
-use Rattle.json_lexemes.specs.Grammar as g
 use Rattle.json_lexemes.specs.Lexemes.{lexemes}
+use Rattle.json_grammar.specs.Grammar as g
 use Rattle.prettyless_model.specs.Column.{saturating_add}
 use Rattle.prettyless_model.specs.Spaces.{spaces}
 use Rattle.json_formatter.specs.BlankLines.{layout_of, with_kept_lines}

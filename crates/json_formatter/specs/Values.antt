@@ -1,7 +1,7 @@
 -- Values by pieces, of which a bracket has a line end with it where its list is kept broken.
 use Rattle.std.specs.Prelude.{ℕ, Bool, true, false, List, [], ◌∷◌, ◌++◌}
 use Rattle.json.specs.Ascii as ascii
-use Rattle.json_lexemes.specs.Grammar as g
+use Rattle.json_grammar.specs.Grammar as g
 
 -- a string, a number or a literal; or an array or an object, and whether it is kept broken
 mutual

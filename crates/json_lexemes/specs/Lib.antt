@@ -1,15 +1,8 @@
 pub mod Lexemes
 pub mod Spaced
 pub mod SpacedLexemes
-pub mod Grammar
 pub mod Laws
 pub mod View
 pub mod Lexer
 pub mod SpacedLexer
 pub mod Words
-pub mod Expected
-pub mod Next
-pub mod Readings
-pub mod Steps
-pub mod Strings
-pub mod Faults

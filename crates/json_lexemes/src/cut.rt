@@ -29,7 +29,7 @@ fn ends_word(byte: u8) -> bool
 
 /// The first place from `from` on where no space stands, or the end.
 #[inline(always)]
-pub(crate) fn spaces_end(bytes: &[u8], from: usize) -> usize
+pub fn spaces_end(bytes: &[u8], from: usize) -> usize
     requires { from ≤ length bytes.now }
     ensures bounds { (from ≤ result) × (result ≤ length bytes.now) }
     ensures cut { cut between (drop result bytes.now) ≡ cut between (drop from bytes.now) }

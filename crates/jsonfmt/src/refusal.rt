@@ -1,6 +1,7 @@
 //! What is said of texts that are refused.
 use formatter_files::message::{say_expected, say_opened, say_word};
-use json_lexemes::{Expected, Lexeme, depth_fault, fault_of};
+use json_grammar::{Expected, depth_fault, fault_of};
+use json_lexemes::Lexeme;
 use std::io;
 use text_places::Place;
 

@@ -7,7 +7,7 @@ use crate::area::{Area, limit_from};
 use crate::status::Status;
 use crate::text::put_fault;
 use json_formatter::{Fill, FormatError, LineEnd, Style, render};
-use json_lexemes::fault_of;
+use json_grammar::fault_of;
 use json_validity::MAX_DEPTH;
 use std::alloc::Global;
 use std::str::from_utf8;
