@@ -9,7 +9,9 @@ use crate::case::Case;
 use crate::layout::Layout;
 use crate::refusal::Refusal;
 use call::{Call, Ending, KINDS, Kind, Laying};
-use prettyless::{DocPtr, IndentationPolicy, LineEnding, RenderError, RenderOptions};
+use prettyless_doc::DocPtr;
+use prettyless_model::options::{IndentationPolicy, LineEnding, RenderOptions};
+use prettyless_sink::error::RenderError;
 use std::alloc::{AllocError, Global};
 use writer::{Writer, Wrong};
 

@@ -4,7 +4,10 @@ ghost use Rattle.std.specs.Prelude.{⊤, None};
 use crate::case::Case;
 use crate::refusal::Refusal;
 use crate::text::{labelled, push_word, word_of};
-use prettyless::{DocPtr, Render, RenderCost, RenderError, Visits};
+use prettyless_doc::DocPtr;
+use prettyless_sink::error::RenderError;
+use prettyless_sink::render::Render;
+use prettyless_sink::visits::{RenderCost, Visits};
 use std::alloc::{AllocError, Global};
 
 /// Which nodes a render begins with.

@@ -1,9 +1,13 @@
 //! The calls that render or print.
 use crate::hostile::writer::{Writer, Wrong};
 use crate::layout::Layout;
-use prettyless::{
-    Doc, DocPtr, FmtWrite, IoWrite, OpaqueWriter, PrettyFmt, RenderCost, RenderError, RenderOptions,
-};
+use prettyless_doc::{Doc, DocPtr, PrettyFmt};
+use prettyless_model::options::RenderOptions;
+use prettyless_sink::error::RenderError;
+use prettyless_sink::fmt_write::FmtWrite;
+use prettyless_sink::io_write::IoWrite;
+use prettyless_sink::text_writer::OpaqueWriter;
+use prettyless_sink::visits::RenderCost;
 use std::alloc::{AllocError, Global};
 use std::fmt::Write;
 use std::{fmt, io};

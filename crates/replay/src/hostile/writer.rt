@@ -1,7 +1,7 @@
 //! A writer of which one call goes wrong: a sink, a byte writer and a text writer.
 ghost use Rattle.std.specs.Prelude.{⊤, None};
 
-use prettyless::Render;
+use prettyless_sink::render::Render;
 use std::io::ErrorKind;
 use std::{fmt, io};
 
