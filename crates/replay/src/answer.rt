@@ -1,7 +1,7 @@
 //! What is said of a line.
 use crate::compared::compared;
 use crate::refusal::Refusal;
-use crate::words::words;
+use crate::words::{before_arrow, words};
 use std::alloc::{AllocError, Global};
 
 /// What is said of a line.
@@ -28,6 +28,7 @@ fn refused(
         Refusal::OutOfMemory => Err(AllocError),
         Refusal::Differs(what) => Ok(Answer::Differs(format!(in alloc; "line {number}: {what}")?)),
         Refusal::NotACase(expected) => {
+            let expected = expected.description();
             let text = format!(in alloc; "error line {number}: expected {expected}")?;
             Ok(if states {
                 Answer::Differs(text)
@@ -48,12 +49,12 @@ pub fn answered(
     if matches!(line, [] | [b'#', ..]) {
         return Ok(Answer::Nothing);
     }
-    let words = words(alloc, line)?;
-    let (case, stated) = match words.iter().position(|word| *word == b"=>".as_slice()) {
-        Some(at) => (&words[..at], Some(&words[at + 1..])),
-        None => (words.as_slice(), None),
+    let words = match words(alloc, line) {
+        Ok(words) => words,
+        Err(refusal) => return refused(alloc, number, false, refusal),
     };
-    match compared(alloc, case, stated.unwrap_or_default(), hostile) {
+    let stated = words[before_arrow(&words).len()..].get(1..);
+    match compared(alloc, line, stated.unwrap_or_default(), hostile) {
         Ok(Some(layout)) if stated.is_none() => Ok(Answer::Outcome(layout.words()?)),
         Ok(_) => Ok(Answer::AsStated),
         Err(refusal) => refused(alloc, number, stated.is_some(), refusal),

@@ -1,5 +1,6 @@
 //! Cases. Their documents are read from the last of their words to the first, so that nothing calls itself.
-use crate::node::{DOCUMENT, node, take_document};
+use crate::expected::Expected;
+use crate::node::{node, take_document};
 use crate::refusal::Refusal;
 use crate::words::{next_word, number, repeated};
 use prettyless_doc::DocPlace;
@@ -12,19 +13,19 @@ pub struct Case<T> {
     pub document: T,
 }
 
-fn line_ending(word: &[u8]) -> Result<LineEnding, Refusal> {
+fn line_ending(word: &str) -> Result<LineEnding, Refusal> {
     match word {
-        b"lf" => Ok(LineEnding::Lf),
-        b"crlf" => Ok(LineEnding::Crlf),
-        _ => Err(Refusal::NotACase("lf or crlf")),
+        "lf" => Ok(LineEnding::Lf),
+        "crlf" => Ok(LineEnding::Crlf),
+        _ => Err(Refusal::NotACase(Expected::LineEnding)),
     }
 }
 
-fn indentation_policy(word: &[u8]) -> Result<IndentationPolicy, Refusal> {
+fn indentation_policy(word: &str) -> Result<IndentationPolicy, Refusal> {
     match word {
-        b"eager" => Ok(IndentationPolicy::Eager),
-        b"deferred" => Ok(IndentationPolicy::Deferred),
-        _ => Err(Refusal::NotACase("eager or deferred")),
+        "eager" => Ok(IndentationPolicy::Eager),
+        "deferred" => Ok(IndentationPolicy::Deferred),
+        _ => Err(Refusal::NotACase(Expected::IndentationPolicy)),
     }
 }
 
@@ -32,13 +33,13 @@ fn indentation_policy(word: &[u8]) -> Result<IndentationPolicy, Refusal> {
 // `again` puts there the document that was made last.
 fn make<'a, D: DocPlace<'a>>(
     place: &'a D,
-    words: &[&'a [u8]],
+    words: &[&'a str],
     made: &mut Vec<D::Doc>,
 ) -> Result<Option<usize>, Refusal> {
     let mut after = words.iter();
-    let name = next_word(&mut after, DOCUMENT)?;
-    if name == b"again".as_slice() {
-        let document = place.clone_ptr(made.last().ok_or(DOCUMENT)?)?;
+    let name = next_word(&mut after, Expected::Document)?;
+    if name == "again" {
+        let document = place.clone_ptr(made.last().ok_or(Expected::Document)?)?;
         made.push(document)?;
         return Ok(Some(after.len()));
     }
@@ -49,41 +50,43 @@ fn make<'a, D: DocPlace<'a>>(
     Ok(Some(after.len()))
 }
 
-const END: &str = "nothing after the document";
-
 // The document that the words write, all of them.
-fn document<'a, D: DocPlace<'a>>(place: &'a D, words: &[&'a [u8]]) -> Result<D::Doc, Refusal> {
+fn document<'a, D: DocPlace<'a>>(place: &'a D, words: &[&'a str]) -> Result<D::Doc, Refusal> {
     let mut made = Vec::new(place.memory());
     let mut read = 0;
     for at in (0..words.len()).rev() {
         if let Some(after) = make(place, &words[at..], &mut made)? {
             if after != read {
-                return Err(Refusal::NotACase(if read == 0 { END } else { DOCUMENT }));
+                return Err(Refusal::NotACase(if read == 0 {
+                    Expected::End
+                } else {
+                    Expected::Document
+                }));
             }
             read = words.len() - at;
         }
     }
     if read != words.len() {
-        return Err(Refusal::NotACase(DOCUMENT));
+        return Err(Refusal::NotACase(Expected::Document));
     }
     let document = take_document(&mut made)?;
     if made.is_empty() {
         Ok(document)
     } else {
-        Err(Refusal::NotACase(END))
+        Err(Refusal::NotACase(Expected::End))
     }
 }
 
 /// The case that these words write, with its nodes in this place.
 pub fn read_case<'a, D: DocPlace<'a>>(
     place: &'a D,
-    words: &[&'a [u8]],
+    words: &[&'a str],
 ) -> Result<Case<D::Doc>, Refusal> {
     let [width, ending, policy, words @ ..] = words else {
-        return Err(Refusal::NotACase("WIDTH lf|crlf eager|deferred NODE"));
+        return Err(Refusal::NotACase(Expected::Case));
     };
     let options = RenderOptions {
-        width: number(width, "a width in decimal, below 2^64")?,
+        width: number(width, Expected::Width)?,
         line_ending: line_ending(ending)?,
         indentation_policy: indentation_policy(policy)?,
     };

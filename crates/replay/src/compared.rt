@@ -4,7 +4,7 @@ use crate::hostile::compare_hostile;
 use crate::layout::{Layout, Over, laid_out};
 use crate::refusal::Refusal;
 use crate::stated::{Found, compare, compare_error, compare_stated};
-use crate::words::repeated;
+use crate::words::{before_arrow, repeated, words};
 use bumpalo::Bump;
 use prettyless_doc::DocPlace;
 use prettyless_pointers::{Arena, BoxAllocator, RcAllocator};
@@ -31,15 +31,16 @@ fn compare_layouts(alloc: Global, what: &str, one: &Layout, other: &Layout) -> R
 // What comes of a case with its nodes in this place, where that is what is stated.
 fn compared_in<'a, D: DocPlace<'a>>(
     place: &'a D,
-    words: &[&'a [u8]],
-    stated: &[&[u8]],
+    line: &'a [u8],
+    stated: &[&str],
     hostile: bool,
 ) -> Result<Layout, Refusal>
 where
     D::Doc: fmt::Debug,
 {
     let alloc = place.memory();
-    let case = read_case(place, words)?;
+    let words = words(alloc, line)?;
+    let case = read_case(place, before_arrow(&words))?;
     let layout = laid_out(alloc, Over::Document, &case)?;
     let over_table = laid_out(alloc, Over::Table, &case)?;
     let found = Found {
@@ -59,34 +60,33 @@ where
 // owners as well.
 fn compared_in_places(
     alloc: Global,
-    words: &[&[u8]],
-    stated: &[&[u8]],
+    line: &[u8],
+    stated: &[&str],
     hostile: bool,
 ) -> Result<Layout, Refusal> {
     let bump = Bump::new(alloc);
     let arena = Arena::new(alloc, &bump);
-    let layout = compared_in(&arena, words, stated, hostile)?;
+    let layout = compared_in(&arena, line, stated, hostile)?;
     if hostile && is_short(&layout) {
         let boxes = BoxAllocator::new(alloc);
-        let boxed = compared_in(&boxes, words, stated, false)?;
+        let boxed = compared_in(&boxes, line, stated, false)?;
         compare_layouts(alloc, "in another place: ", &layout, &boxed)?;
         let owners = RcAllocator::new(alloc);
-        let owned = compared_in(&owners, words, stated, false)?;
+        let owned = compared_in(&owners, line, stated, false)?;
         compare_layouts(alloc, "in another place: ", &layout, &owned)?;
     }
     Ok(layout)
 }
 
-/// What comes of the case that these words write, or why they write none, where that is what is stated. None is where a
-/// refusal is as stated.
+/// What comes of the case of this line, where that is what is stated, or nothing where that it writes none is.
 pub fn compared(
     alloc: Global,
-    words: &[&[u8]],
-    stated: &[&[u8]],
+    line: &[u8],
+    stated: &[&str],
     hostile: bool,
 ) -> Result<Option<Layout>, Refusal> {
     let stated = repeated(alloc, stated)?;
-    match compared_in_places(alloc, words, &stated, hostile) {
+    match compared_in_places(alloc, line, &stated, hostile) {
         Ok(layout) => Ok(Some(layout)),
         Err(Refusal::NotACase(expected)) => {
             compare_error(alloc, &stated, expected)?;

@@ -5,6 +5,7 @@
 mod answer;
 mod case;
 mod compared;
+mod expected;
 mod hostile;
 mod layout;
 mod node;

@@ -1,3 +1,4 @@
+use crate::expected::Expected;
 use hex::FromHexError;
 use prettyless_doc::text::BuildError;
 use std::alloc::{AllocError, AllocFailed};
@@ -6,15 +7,15 @@ use std::alloc::{AllocError, AllocFailed};
 #[derive(Drop)]
 pub enum Refusal {
     /// It writes no case: what was expected.
-    NotACase(&'static str),
+    NotACase(Expected),
     /// Memory was refused.
     OutOfMemory,
     /// Its case comes out otherwise than it states, or than it has to: how it does.
     Differs(String),
 }
 
-impl From<&'static str> for Refusal {
-    fn from(expected: &'static str) -> Refusal {
+impl From<Expected> for Refusal {
+    fn from(expected: Expected) -> Refusal {
         Refusal::NotACase(expected)
     }
 }
@@ -42,7 +43,7 @@ impl From<FromHexError> for Refusal {
     fn from(error: FromHexError) -> Refusal {
         match error {
             FromHexError::OutOfMemory => Refusal::OutOfMemory,
-            _ => Refusal::NotACase(crate::text::TEXT),
+            _ => Refusal::NotACase(Expected::Text),
         }
     }
 }

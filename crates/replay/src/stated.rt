@@ -1,5 +1,6 @@
 //! What a line states of its case, compared with what comes of it. Both are said in the same words.
 use crate::case::Case;
+use crate::expected::Expected;
 use crate::layout::Layout;
 use crate::refusal::Refusal;
 use crate::text::{labelled, push_word, text, word_of};
@@ -18,7 +19,7 @@ pub fn compare(alloc: Global, what: &str, stated: &str, found: &str) -> Result<(
 }
 
 // The texts of these words, put together.
-fn joined(alloc: Global, words: &[&[u8]]) -> Result<String, Refusal> {
+fn joined(alloc: Global, words: &[&str]) -> Result<String, Refusal> {
     let mut all = String::new(alloc);
     for word in words {
         all.push_str(text(alloc, word)?.as_str())?;
@@ -27,7 +28,7 @@ fn joined(alloc: Global, words: &[&[u8]]) -> Result<String, Refusal> {
 }
 
 // The texts of these words as words in hexadecimal.
-fn in_hexadecimal(alloc: Global, words: &[&[u8]]) -> Result<String, Refusal> {
+fn in_hexadecimal(alloc: Global, words: &[&str]) -> Result<String, Refusal> {
     let mut all = String::new(alloc);
     for word in words {
         push_word(alloc, &mut all, text(alloc, word)?.as_str())?;
@@ -40,36 +41,34 @@ fn visit_words(alloc: Global, label: &str, visits: Visits) -> Result<String, All
     format!(in alloc; "{label} {printer} {probes}")
 }
 
-const VISITS: &str = "a number of visits in decimal, below 2^64";
-
-fn visits(words: &[&[u8]]) -> Result<Visits, Refusal> {
+fn visits(words: &[&str]) -> Result<Visits, Refusal> {
     let [printer, probes] = words else {
-        return Err(Refusal::NotACase(VISITS));
+        return Err(Refusal::NotACase(Expected::Visits));
     };
     Ok(Visits {
-        printer: number(printer, VISITS)?,
-        probes: number(probes, VISITS)?,
+        printer: number(printer, Expected::Visits)?,
+        probes: number(probes, Expected::Visits)?,
     })
 }
 
 // An outcome in words.
-fn outcome_words(alloc: Global, label: &str, words: &[&[u8]]) -> Result<String, Refusal> {
+fn outcome_words(alloc: Global, label: &str, words: &[&str]) -> Result<String, Refusal> {
     let text = joined(alloc, words)?;
     Ok(labelled(alloc, label, word_of(alloc, text.as_bytes())?.as_str())?)
 }
 
 // What is stated by a statement of this kind.
-fn stated_words(alloc: Global, kind: &[u8], words: &[&[u8]]) -> Result<String, Refusal> {
+fn stated_words(alloc: Global, kind: &str, words: &[&str]) -> Result<String, Refusal> {
     match kind {
-        b"ok" => outcome_words(alloc, "ok", words),
-        b"fail" => outcome_words(alloc, "fail", words),
-        b"error" => Ok(labelled(alloc, "error: expected", joined(alloc, words)?.as_str())?),
-        b"visits" => Ok(visit_words(alloc, "visits", visits(words)?)?),
-        b"table" => Ok(visit_words(alloc, "table", visits(words)?)?),
-        b"few" => Ok(String::from_str(alloc, "few")?),
-        b"pieces" => Ok(labelled(alloc, "pieces", in_hexadecimal(alloc, words)?.as_str())?),
-        b"debug" => Ok(labelled(alloc, "debug", joined(alloc, words)?.as_str())?),
-        _ => Err(Refusal::NotACase("ok, fail, error, visits, table, few, pieces or debug")),
+        "ok" => outcome_words(alloc, "ok", words),
+        "fail" => outcome_words(alloc, "fail", words),
+        "error" => Ok(labelled(alloc, "error: expected", joined(alloc, words)?.as_str())?),
+        "visits" => Ok(visit_words(alloc, "visits", visits(words)?)?),
+        "table" => Ok(visit_words(alloc, "table", visits(words)?)?),
+        "few" => Ok(String::from_str(alloc, "few")?),
+        "pieces" => Ok(labelled(alloc, "pieces", in_hexadecimal(alloc, words)?.as_str())?),
+        "debug" => Ok(labelled(alloc, "debug", joined(alloc, words)?.as_str())?),
+        _ => Err(Refusal::NotACase(Expected::Statement)),
     }
 }
 
@@ -83,14 +82,14 @@ pub struct Found<'f, T> {
 
 impl<'a, T: DocPtr<'a> + fmt::Debug> Found<'_, T> {
     // What is found that a statement of this kind speaks of.
-    fn words(&self, alloc: Global, kind: &[u8]) -> Result<String, AllocError> {
+    fn words(&self, alloc: Global, kind: &str) -> Result<String, AllocError> {
         let visits = self.layout.visits;
         match kind {
-            b"few" if visits.probes / 5 < visits.printer => String::from_str(alloc, "few"),
-            b"few" | b"visits" => visit_words(alloc, "visits", visits),
-            b"table" => visit_words(alloc, "table", self.over_table.visits),
-            b"pieces" => labelled(alloc, "pieces", self.layout.pieces.as_str()),
-            b"debug" => {
+            "few" if visits.probes / 5 < visits.printer => String::from_str(alloc, "few"),
+            "few" | "visits" => visit_words(alloc, "visits", visits),
+            "table" => visit_words(alloc, "table", self.over_table.visits),
+            "pieces" => labelled(alloc, "pieces", self.layout.pieces.as_str()),
+            "debug" => {
                 let document = &self.case.document;
                 format!(in alloc; "debug {document:?}")
             }
@@ -100,53 +99,38 @@ impl<'a, T: DocPtr<'a> + fmt::Debug> Found<'_, T> {
 }
 
 // The words that statements begin with.
-const KINDS: [&[u8]; 8] = [
-    b"ok", b"fail", b"error", b"visits", b"table", b"few", b"pieces", b"debug",
+const KINDS: [&str; 8] = [
+    "ok", "fail", "error", "visits", "table", "few", "pieces", "debug",
 ];
 
-// The statement that these words begin with: its kind, its words, and those after it.
-type Parted<'w, 'a> = (&'a [u8], &'w [&'a [u8]], &'w [&'a [u8]]);
-
-fn parted<'w, 'a>(words: &'w [&'a [u8]]) -> Option<Parted<'w, 'a>> {
-    let (kind, after) = words.split_first()?;
-    let end = after.iter().position(|word| KINDS.contains(word));
-    let (own, rest) = after.split_at(end.unwrap_or(after.len()));
-    Some((*kind, own, rest))
+// Those of these words that come before the next statement.
+fn own_words<'w, 'a>(words: &'w [&'a str]) -> &'w [&'a str] {
+    let end = words.iter().position(|word| KINDS.contains(word));
+    &words[..end.unwrap_or(words.len())]
 }
 
 /// Refuses a case that is otherwise than these words state.
 pub fn compare_stated<'a, T: DocPtr<'a> + fmt::Debug>(
     alloc: Global,
-    stated: &[&[u8]],
+    stated: &[&str],
     found: &Found<'_, T>,
 ) -> Result<(), Refusal> {
-    let mut rest = stated;
-    for _ in 0..stated.len() {
-        let Some((kind, words, after)) = parted(rest) else {
-            break;
-        };
-        let stated = stated_words(alloc, kind, words)?;
-        compare(
-            alloc,
-            "",
-            stated.as_str(),
-            found.words(alloc, kind)?.as_str(),
-        )?;
-        rest = after;
+    for at in 0..stated.len() {
+        if at == 0 || KINDS.contains(&stated[at]) {
+            let (kind, words) = (stated[at], own_words(&stated[at + 1..]));
+            let (stated, found) = (stated_words(alloc, kind, words)?, found.words(alloc, kind)?);
+            compare(alloc, "", stated.as_str(), found.as_str())?;
+        }
     }
     Ok(())
 }
 
-/// Refuses a line that is no case, since this was expected, where its first statement is not that error.
-pub fn compare_error(
-    alloc: Global,
-    stated: &[&[u8]],
-    expected: &'static str,
-) -> Result<(), Refusal> {
-    let Some((kind, words, _)) = parted(stated) else {
+/// Refuses a line that is no case, since this was expected, where that is not what it states first.
+pub fn compare_error(alloc: Global, stated: &[&str], expected: Expected) -> Result<(), Refusal> {
+    let Some((kind, words)) = stated.split_first() else {
         return Err(Refusal::NotACase(expected));
     };
-    let stated = stated_words(alloc, kind, words)?;
-    let found = labelled(alloc, "error: expected", expected)?;
+    let stated = stated_words(alloc, kind, own_words(words))?;
+    let found = labelled(alloc, "error: expected", expected.description())?;
     compare(alloc, "", stated.as_str(), found.as_str())
 }

@@ -1,10 +1,8 @@
 //! Texts as words: in hexadecimal with two digits for each byte, and `-` for no byte, or in quotes.
+use crate::expected::Expected;
 use crate::refusal::Refusal;
 use prettyless_doc::text::CowStr;
 use std::alloc::{AllocError, Global};
-
-/// What a text is expected to be.
-pub const TEXT: &str = "a text in hexadecimal, lower case, or in quotes, or -";
 
 /// The word that writes these bytes in hexadecimal.
 pub fn word_of(alloc: Global, bytes: &[u8]) -> Result<String, AllocError> {
@@ -29,14 +27,13 @@ pub fn labelled(alloc: Global, label: &str, words: &str) -> Result<String, Alloc
 }
 
 // The text of a word in hexadecimal.
-fn hexadecimal(alloc: Global, word: &[u8]) -> Result<String, Refusal> {
-    let digits = if word == b"-".as_slice() { &[] } else { word };
-    let bytes = hex::decode(alloc, digits)?;
+fn hexadecimal(alloc: Global, word: &str) -> Result<String, Refusal> {
+    let bytes = hex::decode(alloc, if word == "-" { "" } else { word })?;
     // Upper case letters, or no digit at all, write no text.
-    if word_of(alloc, &bytes)?.as_bytes() != word {
-        return Err(Refusal::NotACase(TEXT));
+    if word_of(alloc, &bytes)?.as_str() != word {
+        return Err(Refusal::NotACase(Expected::Text));
     }
-    String::from_utf8(bytes).map_err(|_| Refusal::NotACase(TEXT))
+    String::from_utf8(bytes).map_err(|_| Refusal::NotACase(Expected::Text))
 }
 
 // The text between quotes, with what its backslashes stand for.
@@ -49,27 +46,27 @@ fn unescaped(alloc: Global, quoted: &str) -> Result<String, Refusal> {
             (true, 'n') => text.push('\n')?,
             (true, 'r') => text.push('\r')?,
             (true, '"' | '\\') => text.push(letter)?,
-            (true, _) | (false, '"') => return Err(Refusal::NotACase(TEXT)),
+            (true, _) | (false, '"') => return Err(Refusal::NotACase(Expected::Text)),
             (false, _) => text.push(letter)?,
         }
         is_escaped = !is_escaped && letter == '\\';
     }
     if is_escaped {
-        return Err(Refusal::NotACase(TEXT));
+        return Err(Refusal::NotACase(Expected::Text));
     }
     Ok(text)
 }
 
+// What stands between quotes.
+fn quoted(word: &str) -> Option<&str> {
+    word.strip_prefix('"')?.strip_suffix('"')
+}
+
 /// The text that a word writes. One in quotes with no backslash is that part of the line.
-pub fn text<'a>(alloc: Global, word: &'a [u8]) -> Result<CowStr<'a>, Refusal> {
-    let [b'"', quoted @ .., b'"'] = word else {
-        return Ok(CowStr::Owned(hexadecimal(alloc, word)?));
-    };
-    match str::from_utf8(quoted) {
-        Ok(quoted) if quoted.contains(['"', '\\']) => {
-            Ok(CowStr::Owned(unescaped(alloc, quoted)?))
-        }
-        Ok(quoted) => Ok(CowStr::Borrowed(quoted)),
-        Err(_) => Err(Refusal::NotACase(TEXT)),
+pub fn text<'a>(alloc: Global, word: &'a str) -> Result<CowStr<'a>, Refusal> {
+    match quoted(word) {
+        None => Ok(CowStr::Owned(hexadecimal(alloc, word)?)),
+        Some(text) if text.contains(['"', '\\']) => Ok(CowStr::Owned(unescaped(alloc, text)?)),
+        Some(text) => Ok(CowStr::Borrowed(text)),
     }
 }

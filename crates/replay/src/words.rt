@@ -1,6 +1,7 @@
 //! The words of a line, and those that `repeat` stands before.
+use crate::expected::Expected;
 use crate::refusal::Refusal;
-use std::alloc::{AllocError, Global};
+use std::alloc::Global;
 use std::slice::Iter;
 use std::str::{FromStr, from_utf8};
 
@@ -25,40 +26,56 @@ impl Stand {
 }
 
 /// The words of a line, with a space between each two. A space in quotes is part of its word.
-pub fn words(alloc: Global, line: &[u8]) -> Result<Vec<&[u8]>, AllocError> {
+pub fn words(alloc: Global, line: &[u8]) -> Result<Vec<&str>, Refusal> {
     let mut stand = Stand::Outside;
-    let words = line.split(|byte| {
+    let parts = line.split(|byte| {
         let ends = *byte == b' ' && stand == Stand::Outside;
         stand = stand.after(*byte);
         ends
     });
-    Ok(words.collect(alloc)?)
+    let mut words = Vec::new(alloc);
+    for part in parts {
+        match from_utf8(part) {
+            Ok(word) => words.push(word)?,
+            Err(_) => return Err(Refusal::NotACase(Expected::Utf8)),
+        }
+    }
+    Ok(words)
+}
+
+/// The words of the case among those of a line. After them comes an arrow, if there are more.
+pub fn before_arrow<'w, 'a>(words: &'w [&'a str]) -> &'w [&'a str] {
+    let end = words.iter().position(|word| *word == "=>");
+    &words[..end.unwrap_or(words.len())]
 }
 
 /// Takes the next word, which is expected to be this.
 pub fn next_word<'a>(
-    words: &mut Iter<'_, &'a [u8]>,
-    expected: &'static str,
-) -> Result<&'a [u8], Refusal> {
-    Ok(words.next().copied().ok_or(expected)?)
+    words: &mut Iter<'_, &'a str>,
+    expected: Expected,
+) -> Result<&'a str, Refusal> {
+    match words.next() {
+        Some(word) => Ok(*word),
+        None => Err(Refusal::NotACase(expected)),
+    }
 }
 
 /// The number that decimal digits write, after a minus where it may be negative, if it has room. A plus is no digit, and neither is a
 /// space.
-pub fn number<T: FromStr>(word: &[u8], expected: &'static str) -> Result<T, Refusal>
+pub fn number<T: FromStr + Drop>(word: &str, expected: Expected) -> Result<T, Refusal>
 where
     T::Err: Drop,
 {
-    match from_utf8(word) {
-        Ok(digits) if !digits.starts_with('+') => Ok(digits.parse().map_err(|_| expected)?),
+    match word.parse() {
+        Ok(number) if !word.starts_with('+') => Ok(number),
         _ => Err(Refusal::NotACase(expected)),
     }
 }
 
 /// Takes the next word, which is expected to be this number.
-pub fn take_number<T: FromStr>(
-    words: &mut Iter<'_, &[u8]>,
-    expected: &'static str,
+pub fn take_number<T: FromStr + Drop>(
+    words: &mut Iter<'_, &str>,
+    expected: Expected,
 ) -> Result<T, Refusal>
 where
     T::Err: Drop,
@@ -69,34 +86,51 @@ where
 // The most times that words are repeated.
 const MOST_TIMES: usize = 1_000_000;
 
-const TIMES: &str = "a number of times in decimal, at most 1000000";
-
-fn times(word: &[u8]) -> Result<usize, Refusal> {
-    let times = number(word, TIMES)?;
+fn times(word: &str) -> Result<usize, Refusal> {
+    let times = number(word, Expected::Times)?;
     if times <= MOST_TIMES {
         Ok(times)
     } else {
-        Err(Refusal::NotACase(TIMES))
+        Err(Refusal::NotACase(Expected::Times))
     }
 }
 
+// The words up to `]`.
+fn enclosed<'w, 'a>(words: &'w [&'a str]) -> Result<&'w [&'a str], Refusal> {
+    match words.iter().position(|word| *word == "]") {
+        Some(end) => Ok(&words[..end]),
+        None => Err(Refusal::NotACase(Expected::RepeatEnd)),
+    }
+}
+
+// Adds the words up to `]` so many times: how many they are.
+fn push_times<'a>(
+    all: &mut Vec<&'a str>,
+    count: &str,
+    words: &[&'a str],
+) -> Result<usize, Refusal> {
+    let words = enclosed(words)?;
+    for _ in 0..times(count)? {
+        all.extend_from_slice(words)?;
+    }
+    Ok(words.len())
+}
+
 /// The words, with those between `repeat N [` and `]` as often as it says.
-pub fn repeated<'a>(alloc: Global, words: &[&'a [u8]]) -> Result<Vec<&'a [u8]>, Refusal> {
+pub fn repeated<'a>(alloc: Global, words: &[&'a str]) -> Result<Vec<&'a str>, Refusal> {
     let mut all = Vec::new(alloc);
-    let mut rest = words;
-    for _ in 0..words.len() {
-        match rest {
-            [] => break,
-            [b"repeat", count, b"[", after @ ..] => {
-                let end = after.iter().position(|word| *word == b"]".as_slice());
-                let end = end.ok_or("] after the words that are repeated")?;
-                all.extend_from_slice(&after[..end].repeat(alloc, times(count)?)?)?;
-                rest = &after[end + 1..];
+    // How many words are done besides those before.
+    let mut done: usize = 0;
+    for at in 0..words.len() {
+        if done > 0 {
+            done -= 1;
+            continue;
+        }
+        match &words[at..] {
+            ["repeat", count, "[", after @ ..] => {
+                done = push_times(&mut all, count, after)?.saturating_add(3);
             }
-            [word, after @ ..] => {
-                all.push(*word)?;
-                rest = after;
-            }
+            _ => all.push(words[at])?,
         }
     }
     Ok(all)
