@@ -1,9 +1,9 @@
 //! What comes of a case, compared with what its line states and with what comes of it in other ways.
 use crate::case::read_case;
 use crate::hostile::compare_hostile;
-use crate::layout::{Layout, Over, laid_out};
+use crate::layout::{Over, WrittenLayout, laid_out};
 use crate::refusal::Refusal;
-use crate::stated::{Found, compare, compare_error, compare_stated};
+use crate::stated::{CaseOutcome, compare, compare_error, compare_stated};
 use crate::words::{before_arrow, repeated, words};
 use bumpalo::Bump;
 use prettyless_doc::DocPlace;
@@ -16,14 +16,19 @@ const MOST_BYTES: usize = 256;
 
 const MOST_VISITS: u64 = 10_000;
 
-fn is_short(layout: &Layout) -> bool {
+fn is_short(layout: &WrittenLayout) -> bool {
     layout.text.len() <= MOST_BYTES
         && layout.visits.printer <= MOST_VISITS
         && layout.visits.probes <= MOST_VISITS
 }
 
 // Refuses a layout that came out otherwise than another.
-fn compare_layouts(alloc: Global, what: &str, one: &Layout, other: &Layout) -> Result<(), Refusal> {
+fn compare_layouts(
+    alloc: Global,
+    what: &str,
+    one: &WrittenLayout,
+    other: &WrittenLayout,
+) -> Result<(), Refusal> {
     let (one, other) = (one.words()?, other.words()?);
     compare(alloc, what, one.as_str(), other.as_str())
 }
@@ -34,7 +39,7 @@ fn compared_in<'a, D: DocPlace<'a>>(
     line: &'a [u8],
     stated: &[&str],
     hostile: bool,
-) -> Result<Layout, Refusal>
+) -> Result<WrittenLayout, Refusal>
 where
     D::Doc: fmt::Debug,
 {
@@ -43,7 +48,7 @@ where
     let case = read_case(place, before_arrow(&words))?;
     let layout = laid_out(alloc, Over::Document, &case)?;
     let over_table = laid_out(alloc, Over::Table, &case)?;
-    let found = Found {
+    let found = CaseOutcome {
         case: &case,
         layout: &layout,
         over_table: &over_table,
@@ -63,7 +68,7 @@ fn compared_in_places(
     line: &[u8],
     stated: &[&str],
     hostile: bool,
-) -> Result<Layout, Refusal> {
+) -> Result<WrittenLayout, Refusal> {
     let bump = Bump::new(alloc);
     let arena = Arena::new(alloc, &bump);
     let layout = compared_in(&arena, line, stated, hostile)?;
@@ -84,7 +89,7 @@ pub fn compared(
     line: &[u8],
     stated: &[&str],
     hostile: bool,
-) -> Result<Option<Layout>, Refusal> {
+) -> Result<Option<WrittenLayout>, Refusal> {
     let stated = repeated(alloc, stated)?;
     match compared_in_places(alloc, line, &stated, hostile) {
         Ok(layout) => Ok(Some(layout)),

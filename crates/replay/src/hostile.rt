@@ -6,9 +6,9 @@ mod call;
 mod writer;
 
 use crate::case::Case;
-use crate::layout::Layout;
+use crate::layout::WrittenLayout;
 use crate::refusal::Refusal;
-use call::{Call, Ending, KINDS, Kind, Laying};
+use call::{CALL_KINDS, Call, CallKind, Ending, Laying};
 use prettyless_doc::DocPtr;
 use prettyless_model::options::{IndentationPolicy, LineEnding, RenderOptions};
 use prettyless_sink::error::RenderError;
@@ -24,7 +24,7 @@ struct Trial {
 }
 
 // Adds the trials of calls of a kind.
-fn push_trials(trials: &mut Vec<Trial>, kind: &Kind, calls: &[Call]) -> Result<(), AllocError> {
+fn push_trials(trials: &mut Vec<Trial>, kind: &CallKind, calls: &[Call]) -> Result<(), AllocError> {
     for &call in calls {
         for &most in kind.most {
             for &wrong in kind.wrongs {
@@ -38,7 +38,7 @@ fn push_trials(trials: &mut Vec<Trial>, kind: &Kind, calls: &[Call]) -> Result<(
 // The trials of all calls that lay out with these options.
 fn trials(alloc: Global, options: RenderOptions) -> Result<Vec<Trial>, AllocError> {
     let mut trials = Vec::new(alloc);
-    for kind in KINDS {
+    for kind in CALL_KINDS {
         push_trials(&mut trials, kind, kind.calls)?;
         if options.line_ending == LineEnding::Lf
             && options.indentation_policy == IndentationPolicy::Eager
@@ -91,7 +91,7 @@ impl<'a, T: DocPtr<'a>> Laying<'_, 'a, T> {
 pub fn compare_hostile<'a, T: DocPtr<'a>>(
     alloc: Global,
     case: &Case<T>,
-    layout: &Layout,
+    layout: &WrittenLayout,
 ) -> Result<(), Refusal> {
     let laying = Laying {
         alloc,

@@ -20,7 +20,7 @@ pub enum Over {
 
 /// What comes of a case: its layout, or what is written before the node that fails. It is the sink that takes that.
 #[derive(Drop)]
-pub struct Layout {
+pub struct WrittenLayout {
     alloc: Global,
     pub fails: bool,
     pub text: String,
@@ -29,7 +29,7 @@ pub struct Layout {
     pub visits: Visits,
 }
 
-impl Layout {
+impl WrittenLayout {
     fn take(&mut self, piece: &str) -> Result<(), AllocError> {
         self.text.push_str(piece)?;
         push_word(self.alloc, &mut self.pieces, piece)
@@ -43,7 +43,7 @@ impl Layout {
     }
 }
 
-impl Render for Layout {
+impl Render for WrittenLayout {
     type Error = AllocError;
 
     ghost bytes = { λ _. None };
@@ -67,8 +67,8 @@ pub fn laid_out<'a, T: DocPtr<'a>>(
     alloc: Global,
     over: Over,
     case: &Case<T>,
-) -> Result<Layout, Refusal> {
-    let mut layout = Layout {
+) -> Result<WrittenLayout, Refusal> {
+    let mut layout = WrittenLayout {
         alloc,
         fails: false,
         text: String::new(alloc),

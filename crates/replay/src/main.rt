@@ -26,22 +26,22 @@ const USAGE: &str =
 
 /// Why `replay` stopped: with what it says, and its status.
 #[derive(Clone, Copy)]
-struct Stop(&'static str, u8);
+struct EarlyEnd(&'static str, u8);
 
-const WORDS: Stop = Stop(USAGE, 2);
+const WORDS: EarlyEnd = EarlyEnd(USAGE, 2);
 
-const FAILED: Stop = Stop("error: reading or writing failed", 1);
+const FAILED: EarlyEnd = EarlyEnd("error: reading or writing failed", 1);
 
-const DIFFERS: Stop = Stop("error: a case is otherwise than stated", 1);
+const DIFFERS: EarlyEnd = EarlyEnd("error: a case is otherwise than stated", 1);
 
-impl From<io::Error> for Stop {
-    fn from(_error: io::Error) -> Stop {
+impl From<io::Error> for EarlyEnd {
+    fn from(_error: io::Error) -> EarlyEnd {
         FAILED
     }
 }
 
 // The words after the program's name. One that is no text is a wrong word.
-fn arguments<R: AllocGlobal + Env>(rt: &R) -> Result<Vec<String>, Stop> {
+fn arguments<R: AllocGlobal + Env>(rt: &R) -> Result<Vec<String>, EarlyEnd> {
     let words = env::args(rt).map_err(|error| match error.kind() {
         ErrorKind::OutOfMemory => FAILED,
         _ => WORDS,
@@ -49,7 +49,7 @@ fn arguments<R: AllocGlobal + Env>(rt: &R) -> Result<Vec<String>, Stop> {
     words.skip(1).collect(rt.alloc()).map_err(|_| FAILED)
 }
 
-fn answer_cases<R: AllocGlobal + Input + Print>(rt: &R, hostile: bool) -> Result<(), Stop> {
+fn answer_cases<R: AllocGlobal + Input + Print>(rt: &R, hostile: bool) -> Result<(), EarlyEnd> {
     let mut reader = BufReader::new(rt.alloc(), rt.reader())?;
     let mut out = BufWriter::new(rt.alloc(), io::writer(rt))?;
     let tally = run(rt.alloc(), hostile, &mut reader, &mut out)?;
@@ -61,7 +61,7 @@ fn answer_cases<R: AllocGlobal + Input + Print>(rt: &R, hostile: bool) -> Result
     }
 }
 
-fn replay<R: AllocGlobal + Env + Input + Print>(rt: &R) -> Result<(), Stop> {
+fn replay<R: AllocGlobal + Env + Input + Print>(rt: &R) -> Result<(), EarlyEnd> {
     match arguments(rt)?.as_slice() {
         [] => answer_cases(rt, false),
         [word] if word.as_str() == "--hostile" => answer_cases(rt, true),
@@ -73,7 +73,7 @@ fn replay<R: AllocGlobal + Env + Input + Print>(rt: &R) -> Result<(), Stop> {
 fn main(rt: HostRuntime) -> ExitCode {
     match replay(&rt) {
         Ok(()) => ExitCode::SUCCESS,
-        Err(Stop(message, status)) => {
+        Err(EarlyEnd(message, status)) => {
             // Where standard error takes no message, the status is what is left.
             let _ = rt.eprintln(message);
             ExitCode::from(status)

@@ -1,7 +1,7 @@
 //! What a line states of its case, compared with what comes of it. Both are said in the same words.
 use crate::case::Case;
 use crate::expected::Expected;
-use crate::layout::Layout;
+use crate::layout::WrittenLayout;
 use crate::refusal::Refusal;
 use crate::text::{labelled, push_word, text, word_of};
 use crate::words::number;
@@ -74,13 +74,13 @@ fn stated_words(alloc: Global, kind: &str, words: &[&str]) -> Result<String, Ref
 
 /// What comes of a case: its layout over its nodes, and over a table of them.
 #[derive(Clone, Copy)]
-pub struct Found<'f, T> {
+pub struct CaseOutcome<'f, T> {
     pub case: &'f Case<T>,
-    pub layout: &'f Layout,
-    pub over_table: &'f Layout,
+    pub layout: &'f WrittenLayout,
+    pub over_table: &'f WrittenLayout,
 }
 
-impl<'a, T: DocPtr<'a> + fmt::Debug> Found<'_, T> {
+impl<'a, T: DocPtr<'a> + fmt::Debug> CaseOutcome<'_, T> {
     // What is found that a statement of this kind speaks of.
     fn words(&self, alloc: Global, kind: &str) -> Result<String, AllocError> {
         let visits = self.layout.visits;
@@ -113,7 +113,7 @@ fn own_words<'w, 'a>(words: &'w [&'a str]) -> &'w [&'a str] {
 pub fn compare_stated<'a, T: DocPtr<'a> + fmt::Debug>(
     alloc: Global,
     stated: &[&str],
-    found: &Found<'_, T>,
+    found: &CaseOutcome<'_, T>,
 ) -> Result<(), Refusal> {
     for at in 0..stated.len() {
         if at == 0 || KINDS.contains(&stated[at]) {

@@ -1,6 +1,6 @@
 //! The calls that render or print.
 use crate::hostile::writer::{Writer, Wrong};
-use crate::layout::Layout;
+use crate::layout::WrittenLayout;
 use prettyless_doc::{Doc, DocPtr, PrettyFmt};
 use prettyless_model::options::RenderOptions;
 use prettyless_sink::error::RenderError;
@@ -33,7 +33,7 @@ pub enum Call {
 }
 
 /// Calls of one kind of writer, how much of a piece that may take at a time, and what may go wrong there.
-pub struct Kind {
+pub struct CallKind {
     pub calls: &'static [Call],
     /// Those that take a width and no options.
     pub at_width: &'static [Call],
@@ -43,20 +43,20 @@ pub struct Kind {
 
 /// All calls.
 #[rattlefmt::skip]
-pub const KINDS: &[Kind] = &[
-    Kind {
+pub const CALL_KINDS: &[CallKind] = &[
+    CallKind {
         calls: &[Call::RawWith, Call::RawObservedWith, Call::RawCountedWith],
         at_width: &[Call::Raw],
-        most: &[usize::MAX, 2, 1],
+        most: &[usize::MAX, 3, 2, 1],
         wrongs: &[Wrong::Refuses, Wrong::TakesNothing, Wrong::CountsOneMore, Wrong::CountsAll],
     },
-    Kind {
+    CallKind {
         calls: &[Call::RawWithIoWrite, Call::With],
         at_width: &[Call::AtWidth],
         most: &[usize::MAX, 1],
         wrongs: &[Wrong::IsInterrupted, Wrong::Refuses, Wrong::TakesNothing],
     },
-    Kind {
+    CallKind {
         calls: &[Call::RawWithFmtWrite, Call::FmtWith, Call::PrintWith, Call::StyledPrintWith],
         at_width: &[Call::FmtAtWidth, Call::PrintAtWidth, Call::StyledPrintAtWidth],
         most: &[usize::MAX],
@@ -81,7 +81,7 @@ pub struct Laying<'d, 'a, T> {
     pub alloc: Global,
     pub document: &'d Doc<'a, T>,
     pub options: RenderOptions,
-    pub layout: &'d Layout,
+    pub layout: &'d WrittenLayout,
 }
 
 impl<'a, T: DocPtr<'a>> Laying<'_, 'a, T> {
