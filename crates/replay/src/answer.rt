@@ -53,7 +53,7 @@ pub fn answered(
         Ok(words) => words,
         Err(refusal) => return refused(alloc, number, false, refusal),
     };
-    let stated = words[before_arrow(&words).len()..].get(1..);
+    let stated = words.get(before_arrow(&words).len().saturating_add(1)..);
     match compared(alloc, line, stated.unwrap_or_default(), hostile) {
         Ok(Some(layout)) if stated.is_none() => Ok(Answer::Outcome(layout.words()?)),
         Ok(_) => Ok(Answer::AsStated),
