@@ -85,8 +85,8 @@ pub struct Laying<'d, 'a, T> {
 }
 
 impl<'a, T: DocPtr<'a>> Laying<'_, 'a, T> {
-    // Prints. A print that fails does not say why: the writer failed, or the document does, of which nothing is written then, or memory
-    // was refused.
+    // Prints. A print that fails does not say why: the writer failed, or the document does, after the bytes before its failing node, or
+    // memory was refused.
     fn print(
         &self,
         shown: PrettyFmt<'a, '_, T>,
@@ -101,8 +101,7 @@ impl<'a, T: DocPtr<'a>> Laying<'_, 'a, T> {
         match printed {
             Ok(()) => Ok(()),
             Err(error) if writer.error.is_some() => Err(RenderError::Sink(io::Error::from(error))),
-            Err(error) if self.layout.fails && writer.calls == 0 => {
-                writer.rest = &[];
+            Err(error) if self.layout.fails && writer.rest.is_empty() => {
                 Err(RenderError::Document(io::Error::from(error)))
             }
             Err(_) => Err(RenderError::Memory(AllocError)),
