@@ -3,7 +3,7 @@ use crate::ending::Ending;
 use crate::folder::push_paths;
 use crate::formatter::Formatter;
 use crate::laying::lay_out_file;
-use crate::outcome::{RunError, ending_of, said};
+use crate::outcome::{FileError, ending_of, said};
 use crate::source::check_name;
 use crate::task::Task;
 use std::fs::Files;
@@ -16,7 +16,7 @@ fn visit<R: AllocGlobal + Files + Input + Eprint + Print, F: Formatter>(
     task: &Task<'_>,
     path: &str,
     paths: &mut Vec<String>,
-) -> Result<Ending, RunError> {
+) -> Result<Ending, FileError> {
     check_name(path)?;
     // A link may lead out of the folder, or back into it, and is not followed.
     let data = fs::symlink_metadata(rt, path)?;

@@ -5,7 +5,7 @@ use crate::below::lay_out_below;
 use crate::ending::Ending;
 use crate::formatter::Formatter;
 use crate::laying::lay_out_file;
-use crate::outcome::{RunError, ending_without_output, said};
+use crate::outcome::{FileError, ending_without_output, said};
 use crate::source::is_input;
 use crate::task::Task;
 use std::fs::Files;
@@ -23,7 +23,7 @@ fn lay_out_named<R: AllocGlobal + Files + Input + Eprint + Print, F: Formatter>(
 ) -> io::Result<Ending> {
     // The error that it is a folder, and no look before, makes it one.
     match lay_out_file(rt, formatter, task, file) {
-        Err(RunError::File(error)) if error.kind() == ErrorKind::IsADirectory && !is_input(file) =>
+        Err(FileError::File(error)) if error.kind() == ErrorKind::IsADirectory && !is_input(file) =>
             { lay_out_below(rt, formatter, task, file) }
         outcome => said(rt, formatter.program(), file, outcome),
     }

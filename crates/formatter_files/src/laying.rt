@@ -5,7 +5,7 @@ use crate::action::Action;
 use crate::editor::settings_for;
 use crate::ending::Ending;
 use crate::formatter::Formatter;
-use crate::outcome::RunError;
+use crate::outcome::FileError;
 use crate::printing::print;
 use crate::report::check;
 use crate::rewriting::rewrite;
@@ -21,7 +21,7 @@ fn lay_out<R: AllocGlobal + Files + Eprint + Print, F: Formatter>(
     formatter: &F,
     task: &Task<'_>,
     source: SourceText<'_>,
-) -> Result<Ending, RunError>
+) -> Result<Ending, FileError>
     ensures { (IsTrue task.now.check ⊎ IsTrue task.now.diff) → result ≡ Ok Ending.Good
         → F.IsLayout formatter.now source.entry.bytes.now source.entry.bytes.now }
 {
@@ -46,7 +46,7 @@ pub(crate) fn lay_out_file<R: AllocGlobal + Files + Input + Eprint + Print, F: F
     formatter: &F,
     task: &Task<'_>,
     file: &str,
-) -> Result<Ending, RunError> {
+) -> Result<Ending, FileError> {
     let ReadText { bytes, read } = read(rt, file)?;
     let source = SourceText {
         name: name_of(file),

@@ -10,16 +10,16 @@ use std::io::ErrorKind;
 
 /// What failed.
 #[derive(Debug, Drop)]
-pub(crate) enum RunError {
+pub(crate) enum FileError {
     /// What was done with one file. The others may come out well.
     File(io::Error),
     /// Standard output, which takes nothing more.
     Output(io::Error),
 }
 
-impl From<io::Error> for RunError {
-    fn from(error: io::Error) -> RunError {
-        RunError::File(error)
+impl From<io::Error> for FileError {
+    fn from(error: io::Error) -> FileError {
+        FileError::File(error)
     }
 }
 
@@ -57,12 +57,12 @@ pub(crate) fn said<R: Eprint>(
     rt: &R,
     program: &str,
     file: &str,
-    outcome: Result<Ending, RunError>,
+    outcome: Result<Ending, FileError>,
 ) -> io::Result<Ending> {
     match outcome {
         Ok(ending) => Ok(ending),
-        Err(RunError::File(error)) => Ok(ending_of(rt, program, name_of(file), Err(error))),
-        Err(RunError::Output(error)) => Err(error),
+        Err(FileError::File(error)) => Ok(ending_of(rt, program, name_of(file), Err(error))),
+        Err(FileError::Output(error)) => Err(error),
     }
 }
 

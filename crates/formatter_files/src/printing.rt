@@ -1,7 +1,7 @@
 //! Writing layouts to standard output.
 use crate::ending::Ending;
 use crate::formatter::{Formatter, LayoutError, Verdict};
-use crate::outcome::RunError;
+use crate::outcome::FileError;
 use crate::source::SourceText;
 use std::io;
 use std::io::Write;
@@ -26,11 +26,11 @@ pub(crate) fn print<R: AllocGlobal + Eprint + Print, F: Formatter>(
     rt: &R,
     formatter: &F,
     source: SourceText<'_>,
-) -> Result<Ending, RunError> {
+) -> Result<Ending, FileError> {
     match formatter.write_parts(rt, source.name, source.bytes, &mut Output(rt)) {
         Ok(Verdict::LaidOut) => Ok(Ending::Good),
         Ok(Verdict::Refused) => Ok(Ending::Refused),
-        Err(LayoutError::Text(error)) => Err(RunError::File(error)),
-        Err(LayoutError::Writer(error)) => Err(RunError::Output(error)),
+        Err(LayoutError::Text(error)) => Err(FileError::File(error)),
+        Err(LayoutError::Writer(error)) => Err(FileError::Output(error)),
     }
 }

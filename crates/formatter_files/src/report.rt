@@ -6,7 +6,7 @@ use crate::difference::difference;
 use crate::ending::Ending;
 use crate::formatter::{Formatter, LayoutError};
 use crate::hunks::hunks;
-use crate::outcome::RunError;
+use crate::outcome::FileError;
 use crate::source::SourceText;
 use crate::task::Task;
 use std::io;
@@ -16,20 +16,20 @@ fn show<R: AllocGlobal + Eprint + Print, F: Formatter>(
     rt: &R,
     formatter: &F,
     source: SourceText<'_>,
-) -> Result<(), RunError> {
+) -> Result<(), FileError> {
     // This lays the text out once more: the first layout was compared while it was made, and not kept.
     let mut layout = Vec::new(rt.alloc());
     match formatter.write_layout(rt, source.name, source.bytes, &mut layout) {
         Ok(_) => {}
         Err(LayoutError::Text(error) | LayoutError::Writer(error)) => {
-            return Err(RunError::File(error));
+            return Err(FileError::File(error));
         }
     }
     let lines = difference(rt.alloc(), source.bytes, &layout).map_err(io::Error::from)?;
     let text = hunks(rt.alloc(), source.name, &lines)?;
     match Print::write_all(rt, &text) {
         Ok(()) => Ok(()),
-        Err(error) => Err(RunError::Output(error)),
+        Err(error) => Err(FileError::Output(error)),
     }
 }
 
@@ -39,7 +39,7 @@ pub(crate) fn check<R: AllocGlobal + Eprint + Print, F: Formatter>(
     formatter: &F,
     task: &Task<'_>,
     source: SourceText<'_>,
-) -> Result<Ending, RunError>
+) -> Result<Ending, FileError>
     ensures { result ≡ Ok Ending.Good → F.IsLayout formatter.now source.entry.bytes.now source.entry.bytes.now }
 {
     match compare(rt, formatter, source)? {
