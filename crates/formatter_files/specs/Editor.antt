@@ -1,7 +1,7 @@
 -- What is left of the settings of a file where the words ask for a layout too.
 use Rattle.std.specs.Prelude.{None, if◌then◌else◌}
 use Rattle.editor_config.specs.declared.settings.Settings.{Settings}
-use Rattle.formatter_files.specs.declared.files.Task.{Task}
+use Rattle.formatter_files.specs.declared.task.Task.{Task}
 
 -- the settings of which the words say nothing
 abbrev pub unsaid : Task → Settings → Settings

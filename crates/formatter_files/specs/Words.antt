@@ -7,7 +7,7 @@ use Rattle.clap.specs.Simple.{new_shape}
 use Rattle.clap.specs.Words.{App, Row, Rule, Text, all_of, first_of, new_rule, one_of, with_rule}
 use Rattle.clap.specs.declared.builder.action.ArgAction.TheVariants.{Append, SetTrue}
 use Rattle.clap.specs.declared.builder.value_parser.ValueParser.TheVariants.{Unsigned}
-use Rattle.formatter_files.specs.declared.files.Task.{Task}
+use Rattle.formatter_files.specs.declared.task.Task.{Task}
 
 -- an option that takes no value
 abbrev pub flag : Text → Rule

@@ -4,7 +4,9 @@
 
 pub mod action;
 pub mod arguments;
+mod below;
 pub mod comparing;
+mod comparison;
 pub mod difference;
 mod editor;
 pub mod ending;
@@ -13,9 +15,15 @@ pub mod folder;
 pub mod formatter;
 pub mod head;
 mod hunks;
+mod laying;
 pub mod message;
+pub mod outcome;
+mod printing;
 pub mod replace;
+mod report;
 mod rewriting;
 mod search;
+mod source;
 pub mod stamp;
+pub mod task;
 pub mod words;

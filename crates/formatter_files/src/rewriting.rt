@@ -1,6 +1,9 @@
 //! Replacing a file by its layout where they differ, while the layout is made.
 use crate::comparing::Comparing;
+use crate::ending::Ending;
+use crate::formatter::{Formatter, LayoutError, Verdict};
 use crate::replace::{NewFile, begin, discard, finish};
+use crate::source::SourceText;
 use crate::stamp::Stamp;
 use std::fs::Files;
 use std::io;
@@ -9,7 +12,7 @@ use std::io::Write;
 /// A writer that compares what is written with the text of a file. From the first difference on it goes to a new file, which
 /// begins with what was the same.
 #[derive(Drop)]
-pub(crate) struct Rewriting<'r, R: Files> {
+struct Rewriting<'r, R: Files> {
     rt: &'r R,
     name: &'r str,
     /// What the file showed when it was read.
@@ -20,12 +23,7 @@ pub(crate) struct Rewriting<'r, R: Files> {
 
 impl<'r, R: Files + AllocGlobal> Rewriting<'r, R> {
     /// Nothing is written yet of what may replace the file with this name and this text.
-    pub(crate) fn new(
-        rt: &'r R,
-        name: &'r str,
-        read: Option<Stamp>,
-        text: &'r [u8],
-    ) -> Rewriting<'r, R> {
+    fn new(rt: &'r R, name: &'r str, read: Option<Stamp>, text: &'r [u8]) -> Rewriting<'r, R> {
         Rewriting {
             rt,
             name,
@@ -45,7 +43,7 @@ impl<'r, R: Files + AllocGlobal> Rewriting<'r, R> {
     /// Has what was written replace the file, unless it is the file's text.
     ///
     /// An error where any step fails, and where the file changed since it was read: then it stays, and no file is left beside it.
-    pub(crate) fn finish(mut self) -> io::Result<()> {
+    fn finish(mut self) -> io::Result<()> {
         if self.new.is_none() && !self.same.is_whole() {
             if let Err(error) = self.differ(&[]) {
                 self.discard();
@@ -60,7 +58,7 @@ impl<'r, R: Files + AllocGlobal> Rewriting<'r, R> {
     }
 
     /// Leaves the file as it was, and no file beside it.
-    pub(crate) fn discard(self) {
+    fn discard(self) {
         let Rewriting { rt, new, .. } = self;
         if let Some(new) = new {
             discard(rt, new);
@@ -83,5 +81,28 @@ impl<R: Files + AllocGlobal> Write for Rewriting<'_, R> {
 
     fn flush(&mut self) -> io::Result<()> {
         Ok(())
+    }
+}
+
+/// Replaces a file by its layout, where they differ.
+pub(crate) fn rewrite<R: AllocGlobal + Files + Eprint, F: Formatter>(
+    rt: &R,
+    formatter: &F,
+    source: SourceText<'_>,
+) -> io::Result<Ending> {
+    let mut layout = Rewriting::new(rt, source.name, source.read, source.bytes);
+    match formatter.write_layout(rt, source.name, source.bytes, &mut layout) {
+        Ok(Verdict::LaidOut) => {
+            layout.finish()?;
+            Ok(Ending::Good)
+        }
+        Ok(Verdict::Refused) => {
+            layout.discard();
+            Ok(Ending::Refused)
+        }
+        Err(LayoutError::Text(error) | LayoutError::Writer(error)) => {
+            layout.discard();
+            Err(error)
+        }
     }
 }

@@ -20,6 +20,7 @@ impl Stamp {
     pub fn of(data: &Metadata) -> Stamp {
         Stamp {
             len: data.len(),
+            // No program can set this time back, as it can that of the text.
             seconds: data.ctime(),
             nanoseconds: data.ctime_nsec(),
         }

@@ -4,7 +4,7 @@ ghost use Rattle.clap.specs.Words.{app_of, first_of, found_of, rows_of, rule_of}
 ghost use Rattle.formatter_files.specs.Words.{HasIndent, HasWidth, IsIndent, IsTask, IsWidth, files, flag, has_flag, number_rule};
 ghost use Rattle.formatter_files.specs.Words.{program, with_files, with_letter, with_numbers, with_width};
 
-use crate::files::Task;
+use crate::task::Task;
 use clap::builder::ValueParser;
 use clap::{Arg, ArgAction, ArgMatches, Command};
 use std::alloc::{AllocError, Global};

@@ -7,7 +7,7 @@ ghost use Rattle.jsonfmt.specs.Words.{AnswersWords, AsksForJson, AsksForNothing,
 use crate::words::{breaking, depth, fill, indent, lettered, line_end, word};
 use clap::error::ErrorKind;
 use clap::{ArgMatches, Command, Error};
-use formatter_files::files::Task;
+use formatter_files::task::Task;
 use formatter_files::words::{
     flag, has_flag, number, program, task, width, with_files, with_width,
 };

@@ -5,7 +5,7 @@ ghost use Rattle.formatter_files.specs.Words.{HasIndent, HasWidth};
 ghost use Rattle.tomlfmt.specs.Words.{AsksForToml, tomlfmt_faults, tomlfmt_matches, tomlfmt};
 
 use clap::{ArgMatches, Command, Error};
-use formatter_files::files::Task;
+use formatter_files::task::Task;
 use formatter_files::words::{
     flag, has_flag, indent, program, task, width, with_files, with_numbers,
 };

@@ -5,7 +5,7 @@ use Rattle.formatter_files.specs.declared.formatter.LayoutError.{LayoutError}
 use Rattle.formatter_files.specs.declared.formatter.Verdict.{Verdict}
 use Rattle.formatter_files.specs.declared.formatter.Verdict.TheVariants.{LaidOut}
 use Rattle.formatter_files.proofs.Compared.{whole_layout}
-use Rattle.formatter_files.proofs.files.compare.Goals as goal
+use Rattle.formatter_files.proofs.comparison.compare.Goals as goal
 
 pub returns-in-Ok-LaidOut : goal.returns-in-Ok-LaidOut
 returns-in-Ok-LaidOut g c same =
