@@ -18,6 +18,9 @@ DEPENDENCIES = (
     " prettyless_program prettyless_shapes prettyless_sink toml_formatter"
 )
 
+# Files whose items no other crate can name, so that no example of them can run.
+PRIVATE = ("prettyless_doc/src/fact.rt", "prettyless_doc/src/formatter_sink.rt", "prettyless_doc/src/given.rt")
+
 # What an example may name: in every crate, and in some.
 IMPORTS = """use crate::outcomes;
 use prettyless::prelude::*;
@@ -122,13 +125,15 @@ RESULT = re.compile(r"^test result: \w+\. (\d+) passed; (\d+) failed", re.M)
 
 
 def examples_of(path, faults):
-    """The examples in the comments of a file."""
+    """The examples in the comments of a file, but for an `impl`, which is to be written, and those of PRIVATE."""
+    if path[len("crates/") :] in PRIVATE:
+        return
     opened, code = 0, []
     with open(path, encoding="utf-8") as lines:
         for number, line in enumerate([*lines, ""], 1):
             comment = re.match(r"\s*//[/!] ?(.*)", line)
             if comment and comment[1] == "```":
-                if opened:
+                if opened and not code[0].startswith("impl"):
                     yield Example(path, opened + 1, code)
                 opened, code = 0 if opened else number, []
             elif opened and comment:
