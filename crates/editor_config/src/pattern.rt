@@ -61,7 +61,7 @@ fn before_choice(
 }
 
 impl Pattern {
-    /// Whether the whole path fits.
+    /// Whether the whole path fits. The pattern is matched from its end, so no pattern takes longer than its parts times the path.
     ///
     /// `AllocError` where memory is refused.
     pub fn fits(&self, alloc: Global, path: &[char]) -> Result<bool, AllocError>

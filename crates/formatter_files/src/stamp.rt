@@ -21,6 +21,7 @@ impl Stamp {
         Stamp {
             len: data.len(),
             // No program can set this time back, as it can that of the text.
+            // The time that no program can set back.
             seconds: data.ctime(),
             nanoseconds: data.ctime_nsec(),
         }

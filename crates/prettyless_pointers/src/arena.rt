@@ -104,7 +104,8 @@ pub struct Arena<'a> {
     // The frequent nodes that hold others are apart from texts: so a walk from one to the next finds them close together.
     inner: Bump,
     placed: Cell<usize>,
-    // Pointers to its constants; none where memory was refused for them.
+    // Pointers to its constants; none where memory was refused for them. One slice has them all: each field with a lifetime
+    // lengthens a proof.
     constants: &'a [RefDoc<'a>],
     ghost table: { IsTable constants.now } by { Prim.hlevel props },
 }

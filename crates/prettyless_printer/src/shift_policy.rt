@@ -5,6 +5,7 @@ ghost use Rattle.std.specs.Prelude.{◌≡◌, ◌≤◌};
 use prettyless_sink::visits::Visits;
 
 /// Probes may visit so many times as many nodes as the printer (`probe_factor`). A node of a table costs about a dozen visits.
+/// The limit is tested before a probe: after one long probe, around a long list, a table is not worth its price.
 const FACTOR: u64 = 16;
 
 /// And so many more (`probe_grace`).

@@ -52,7 +52,7 @@ impl<N: Walk> Table<N> {
     ghost use Rattle.prettyless_table.specs.Stored.{FirstIn, HasAt, SecondIn};
     ghost use Rattle.prettyless_table.specs.Owners.{AreFound, WaitsInTable, all_owners, keepers};
 
-    /// A table without documents, with memory for so many cells. It fails where that memory is refused.
+    /// A table without documents, with memory for so many cells, which is asked for once. It fails where that memory is refused.
     pub fn with_room(alloc: Global, nodes: usize) -> Result<Self, TableRefused>
         ensures empty { IfOk result (λ t. t.cells.items ≡ []) }
         ensures sound { IfOk result (λ t. CellsAreSound N.tree t.cells.items) }

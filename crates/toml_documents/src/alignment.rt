@@ -1,4 +1,5 @@
-//! Comments at the ends of lines that follow each other, one below the other.
+//! Comments at the ends of lines that follow each other, one below the other, in a finished layout: nothing before shows how
+//! wide a line is.
 ghost use Rattle.std.specs.Prelude.{◌≡◌, ◌++◌, OnOk};
 ghost use Rattle.std.specs.String.{string_bytes};
 ghost use Rattle.prettyless_model.specs.Spaces.{spaces};

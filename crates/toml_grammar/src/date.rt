@@ -65,7 +65,7 @@ fn days_in(year: u32, month: u32) -> u32
     }
 }
 
-/// Whether the year and the month have the day.
+/// Whether the year and the month have the day. TOML 1.0 leaves days and years open; here 0000 is a year.
 fn has_day(year: u32, month: u32, day: u32) -> bool
     ensures { result ≡ spec.has_day year month day }
 {
@@ -93,7 +93,7 @@ fn has_hours(bytes: &[u8]) -> bool
     two_digits(bytes, 0) <= 23 && two_digits(bytes, 3) <= 59
 }
 
-/// Whether the bytes are hours, minutes and seconds.
+/// Whether the bytes are hours, minutes and seconds. TOML 1.0 leaves leap seconds open; here seconds are 0 to 59.
 #[tactic(auto, unfolding(crate::specs::Dates::is_clock))]
 fn is_clock(bytes: &[u8]) -> bool
     ensures { result ≡ spec.is_clock bytes.now }

@@ -6,7 +6,7 @@ ghost use Rattle.toml_lexemes.specs.SpacedLexer.{text_if, IsNamedIf};
 
 use toml_lexemes::{Lexeme, SpacedLexer};
 
-/// How many brackets may be in one another where a text is laid out.
+/// How many brackets may be in one another where a text is laid out: a function calls itself for a list.
 pub const MAX_DEPTH: usize = 128;
 
 /// How many brackets are open after the lexeme, or after the end of the text.
