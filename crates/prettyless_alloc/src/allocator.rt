@@ -21,10 +21,10 @@ use prettyless_doc::text::CowStr;
 use prettyless_doc::{BuildDoc, BuildError, Doc, DocPlace, Text};
 use std::fmt;
 
-/// The documents that every place of nodes can start.
+/// The calls of every allocator that start a document.
 pub trait DocAllocator<'a>: DocPlace<'a> {
-    /// A pointer to the document: its own where it has one, which takes no memory. Else it is that of a new node, and
-    /// fails where memory is refused.
+    /// A pointer to the document, whose node is allocated if that is not done yet. Only that takes memory, and fails if
+    /// memory runs out.
     ///
     /// ```
     /// place.alloc_cow(BuildDoc::Doc(Doc::HardLine))? // a pointer to "\n"
@@ -34,7 +34,7 @@ pub trait DocAllocator<'a>: DocPlace<'a> {
         ensures placed { IfPlaced doc.entry (λ p. result ≡ Ok p) }
         ensures err { IfErr result IsMemory };
 
-    /// Nothing. It takes no memory.
+    /// The empty document. It takes no memory.
     ///
     /// ```
     /// place.nil()? // ""
@@ -43,7 +43,7 @@ pub trait DocAllocator<'a>: DocPlace<'a> {
         ensures ok { IfOk result (λ b. built Self.Doc.tree b.1 ≡ Nil) }
         ensures err { IfErr result IsNever };
 
-    /// A document that cannot be laid: a render that reaches it fails. It takes no memory.
+    /// A document that cannot be printed: a render that reaches it fails. It takes no memory.
     ///
     /// ```
     /// docs![place, "a", place.fail()?]? // writes "a", then `RenderError::Document`
@@ -52,8 +52,8 @@ pub trait DocAllocator<'a>: DocPlace<'a> {
         ensures ok { IfOk result (λ b. built Self.Doc.tree b.1 ≡ Fail) }
         ensures err { IfErr result IsNever };
 
-    /// A text that counts as one column a byte, also where it is empty or not ASCII. Only an owned
-    /// text takes memory, and fails where that is refused.
+    /// A text that counts as one column per byte, also where it is empty or not ASCII. Only an owned text takes memory,
+    /// and fails if memory runs out.
     ///
     /// ```
     /// place.ascii_text(CowStr::Borrowed("a"))? // "a", one column
@@ -63,8 +63,8 @@ pub trait DocAllocator<'a>: DocPlace<'a> {
         ensures borrowed { IfLent text.entry (IsOk result) }
         ensures err { IfErr result IsMemory };
 
-    /// A text that counts as so many columns, for instance one with marks that are not shown. An empty one is a
-    /// text too, and counts as none. Only an owned text takes memory, and fails where that is refused.
+    /// A text that counts as `width` columns, for instance one with marks that are not shown. An empty one is a text
+    /// too, and counts as none. Only an owned text takes memory, and fails if memory runs out.
     ///
     /// ```
     /// place.text_with_width(CowStr::Borrowed("<b>bold"), 4)? // "<b>bold", four columns
@@ -78,9 +78,9 @@ pub trait DocAllocator<'a>: DocPlace<'a> {
         ensures borrowed { IfLent text.entry (IsOk result) }
         ensures err { IfErr result IsMemory };
 
-    /// A text, written as it is: nothing if it is empty. It counts as its bytes if it is ASCII, and else as its display
-    /// width. A line end in it is not seen by the layout: `multiline_text` is for such texts. Only an
-    /// owned text takes memory, and fails where that is refused.
+    /// A text of one line, written unchanged: nothing if it is empty. It counts as its bytes if it is ASCII, and else
+    /// as its display width. A line end in it is not seen by the layout: `multiline_text` is for such texts. Only an
+    /// owned text takes memory, and fails if memory runs out.
     ///
     /// ```
     /// place.text(CowStr::Borrowed("你好"))? // "你好", four columns
@@ -90,10 +90,10 @@ pub trait DocAllocator<'a>: DocPlace<'a> {
         ensures borrowed { IfLent text.entry (IsOk result) }
         ensures err { IfErr result IsMemory };
 
-    /// What `{}` shows of the value: an empty text where it shows nothing. It counts as its bytes if it is ASCII, and
+    /// The value as `{}` formats it: an empty text where that is nothing. It counts as its bytes if it is ASCII, and
     /// else as its display width.
     ///
-    /// Answers `Memory` where memory was refused, and `Display` where only the value's formatting failed. No clause says
+    /// Answers `Memory` where memory ran out, and `Display` where only the value's formatting failed. No clause says
     /// which of the two comes.
     ///
     /// ```
@@ -106,9 +106,9 @@ pub trait DocAllocator<'a>: DocPlace<'a> {
         ensures ok { IfOk result (λ b. counted.IsStringOf (V.output value)
             (built Self.Doc.tree b.1)) };
 
-    /// A text whose line ends, each LF or CR, are written as they are, with no indent after them. It keeps the groups
-    /// around it from being flat, and fails under `flatten`. Without one it is as `text` makes it. Only an owned
-    /// text takes memory, and fails where that is refused.
+    /// A text of several lines, written unchanged, with no indent after its line ends. Each LF and each CR ends a line.
+    /// It keeps the groups around it from being flat, and fails under `flatten`. Without a line end it is as `text`
+    /// makes it. Only an owned text takes memory, and fails if memory runs out.
     ///
     /// ```
     /// place.multiline_text(CowStr::Borrowed("a\nb"))?.nest(2)? // "a\nb"
@@ -118,8 +118,8 @@ pub trait DocAllocator<'a>: DocPlace<'a> {
         ensures borrowed { IfLent text.entry (IsOk result) }
         ensures err { IfErr result IsMemory };
 
-    /// The pieces of a text between its whitespace, each as `text` makes it, with a `softline` in place
-    /// of each whitespace character. It fails where memory is refused.
+    /// The text with a `softline` in place of each whitespace character. Each piece between is as `text` makes it. It
+    /// fails if memory runs out.
     ///
     /// ```
     /// place.reflow("a b c")? // "a b\nc" at 3 columns, "a\nb\nc" at 2
@@ -145,8 +145,8 @@ pub trait DocAllocator<'a>: DocPlace<'a> {
         ensures ok { IfOk result (λ b. built Self.Doc.tree b.1 ≡ HardLine) }
         ensures err { IfErr result IsNever };
 
-    /// A line break, under `flatten` too. It keeps the groups around it from being flat. It is nothing on a fresh line
-    /// where no suffix is pending. It takes no memory.
+    /// A line break, left out on a fresh line where no suffix is pending. It breaks under `flatten` too, and keeps the
+    /// groups around it from being flat. It takes no memory.
     ///
     /// ```
     /// docs![place, "a", place.weak_line()?, place.weak_line()?, "b"]? // "a\nb"
@@ -155,7 +155,7 @@ pub trait DocAllocator<'a>: DocPlace<'a> {
         ensures ok { IfOk result (λ b. built Self.Doc.tree b.1 ≡ WeakLine) }
         ensures err { IfErr result IsNever };
 
-    /// The text of one space. It takes no memory.
+    /// A text of one space. It takes no memory.
     ///
     /// ```
     /// docs![place, "a", place.space()?, "b"]? // "a b"
@@ -164,8 +164,8 @@ pub trait DocAllocator<'a>: DocPlace<'a> {
         ensures ok { IfOk result (λ b. built Self.Doc.tree b.1 ≡ lines.space) }
         ensures err { IfErr result IsNever };
 
-    /// So many spaces, in texts of at most 100: nothing for 0. Up to 100 it takes no memory; beyond that it fails where
-    /// memory is refused.
+    /// A run of `count` spaces, in texts of at most 100: nothing for 0. Up to 100 it takes no memory; beyond that it
+    /// fails if memory runs out.
     ///
     /// ```
     /// docs![place, "a", place.spaces(3)?, "b"]? // "a   b"
@@ -174,7 +174,7 @@ pub trait DocAllocator<'a>: DocPlace<'a> {
         ensures ok { IfOk result (λ b. built Self.Doc.tree b.1 ≡ to.spaces_tree count) }
         ensures err { IfErr result (λ e. IsMemory e × (100 < count)) };
 
-    /// A space; nothing at the start of a line, and nothing at its end unless a suffix is pending there. It takes no
+    /// A space, left out at the start of a line, and at the end of a line unless a suffix is pending there. It takes no
     /// memory.
     ///
     /// ```
@@ -184,7 +184,7 @@ pub trait DocAllocator<'a>: DocPlace<'a> {
         ensures ok { IfOk result (λ b. built Self.Doc.tree b.1 ≡ WeakSpace) }
         ensures err { IfErr result IsNever };
 
-    /// Nothing, but it keeps the groups around it from being flat. It takes no memory.
+    /// An empty document that keeps the groups around it from being flat. It takes no memory.
     ///
     /// ```
     /// docs![place, "a", place.line()?, place.expand_parent()?, "b"]?.group()? // "a\nb"
@@ -193,7 +193,7 @@ pub trait DocAllocator<'a>: DocPlace<'a> {
         ensures ok { IfOk result (λ b. built Self.Doc.tree b.1 ≡ ExpandParent) }
         ensures err { IfErr result IsNever };
 
-    /// A line break, or one space where lines are flat. It fails where memory is refused.
+    /// A line break, or one space where lines are flat. It fails if memory runs out.
     ///
     /// ```
     /// docs![place, "a", place.line()?, "b"]?.group()? // "a b" at 3 columns, "a\nb" at 2
@@ -202,7 +202,7 @@ pub trait DocAllocator<'a>: DocPlace<'a> {
         ensures ok { IfOk result (λ b. built Self.Doc.tree b.1 ≡ lines.line) }
         ensures err { IfErr result IsMemory };
 
-    /// A line break, or nothing where lines are flat. It fails where memory is refused.
+    /// A line break, or nothing where lines are flat. It fails if memory runs out.
     ///
     /// ```
     /// docs![place, "a", place.line_()?, "b"]?.group()? // "ab" at 2 columns, "a\nb" at 1
@@ -211,8 +211,8 @@ pub trait DocAllocator<'a>: DocPlace<'a> {
         ensures ok { IfOk result (λ b. built Self.Doc.tree b.1 ≡ lines.line_) }
         ensures err { IfErr result IsMemory };
 
-    /// One space, or a line break where what follows, up to the next possible break, would go past the width.
-    /// It fails where memory is refused.
+    /// One space, or a line break where what follows, up to the next possible break, would go past the width. It fails
+    /// if memory runs out.
     ///
     /// ```
     /// docs![place, "a", place.softline()?, "b"]? // "a b" at 3 columns, "a\nb" at 2
@@ -221,8 +221,8 @@ pub trait DocAllocator<'a>: DocPlace<'a> {
         ensures ok { IfOk result (λ b. built Self.Doc.tree b.1 ≡ to.softline) }
         ensures err { IfErr result IsMemory };
 
-    /// Nothing, or a line break where what follows, up to the next possible break, would go past the width.
-    /// It fails where memory is refused.
+    /// Nothing, or a line break where what follows, up to the next possible break, would go past the width. It fails if
+    /// memory runs out.
     ///
     /// ```
     /// docs![place, "a", place.softline_()?, "b"]? // "ab" at 2 columns, "a\nb" at 1
@@ -231,8 +231,8 @@ pub trait DocAllocator<'a>: DocPlace<'a> {
         ensures ok { IfOk result (λ b. built Self.Doc.tree b.1 ≡ to.softline_) }
         ensures err { IfErr result IsMemory };
 
-    /// The documents in order, with the separator in each gap: nothing if there is none. It fails where memory is
-    /// refused.
+    /// The documents in order, with the separator between each two: nothing if there is no document. It fails if memory
+    /// runs out.
     ///
     /// It is `intersperse` of documents that are made already. So it serves a function that calls itself, whose
     /// iterator would call it too.
@@ -248,8 +248,8 @@ pub trait DocAllocator<'a>: DocPlace<'a> {
         ensures { Builds result (λ b. built Self.Doc.tree b.1)
             (words.intersperse (built Self.Doc.tree separator.entry.1) (map Self.Doc.tree docs.items)) };
 
-    /// The documents in order, each but the last with the punctuation after it: a comma, for instance. It fails where memory is
-    /// refused.
+    /// The documents in order, with the punctuation after each but the last: a comma, for instance. It fails if memory
+    /// runs out.
     ///
     /// ```
     /// place.separate(place.punctuated(docs, place.pretty(",")?)?, place.line()?)? // of "a" and "b": "a,\nb"
@@ -263,10 +263,10 @@ pub trait DocAllocator<'a>: DocPlace<'a> {
             ≡ lists.punctuated (built Self.Doc.tree mark.entry.1) (map Self.Doc.tree docs.items)) }
         ensures err { IfErr result IsMemory };
 
-    /// The documents between two texts, each of which is as `text` makes it. They are in a group: flat, with one space
-    /// between two documents, or broken. Then each document is on a line of its own, its indent moved by so many
-    /// columns. Where there is no document, the two texts stand side by side, with no break. It fails where memory is
-    /// refused.
+    /// A group of the documents between the texts `before` and `after`. Where lines are flat, one space is between each
+    /// two documents. Where they are broken, each document is on a line of its own, with its indent moved by `indent`
+    /// columns. Where there is no document, the two texts stand side by side, with no break. Each text is as `text`
+    /// makes it. It fails if memory runs out.
     ///
     /// For a list with commas it takes the documents that `punctuated` answers.
     ///

@@ -9,14 +9,14 @@ use prettyless_doc::{BuildError, DocPlace};
 use prettyless_model::choice::{ChoiceTest, ColumnTest, NestingTest};
 use prettyless_model::kind::Pair;
 
-/// The documents that every place of nodes can make of one of type `P` and one of type `Q`. Each call fails as making one
-/// of the two does, or where memory is refused. The first becomes a document before the second, and both do, also where the
-/// first is refused.
+/// The calls of every allocator that make a document of two operands, of types `P` and `Q`. Each call fails as making
+/// one of the two documents does, or if memory runs out. The first operand becomes a document before the second, and
+/// both do, also where making the first fails.
 ///
 /// `P` and `Q` are parameters of the trait and not of its calls, as for `DocAllocatorOf`.
 pub trait DocAllocatorOfTwo<'a, P: Pretty<'a, Self>, Q: Pretty<'a, Self>>: DocPlace<'a> {
-    /// The first document where the test of the column at which it would start holds, else the second, flat or broken.
-    /// It fails as the making of one of the two does, and where memory is refused.
+    /// The first document if the test holds at the column where it would start, and else the second, in flat lines too.
+    /// It fails as the making of one of the two does, and if memory runs out.
     ///
     /// ```
     /// docs![place, "ab", place.if_column(ColumnTest::AtMost(1), "c", "d")?]? // "abd"
@@ -30,8 +30,8 @@ pub trait DocAllocatorOfTwo<'a, P: Pretty<'a, Self>, Q: Pretty<'a, Self>>: DocPl
         ensures { BuildsOfTwo result (λ b. built Self.Doc.tree b.1) (P.becomes first) (Q.becomes second) (P.refuses first)
             (Q.refuses second) (OnColumn test) };
 
-    /// The first document where the test of the indent holds, else the second, flat or broken.
-    /// It fails as the making of one of the two does, and where memory is refused.
+    /// The first document if the test holds for the indent, and else the second, in flat lines too. It fails as the
+    /// making of one of the two does, and if memory runs out.
     ///
     /// ```
     /// place.if_nesting(NestingTest::AtLeast(2), "c", "d")?.nest(2)? // "c"

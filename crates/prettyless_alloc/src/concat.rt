@@ -10,16 +10,16 @@ ghost use Rattle.prettyless_build.specs.Iterated.{GivesAll, GivesSome, GivesNext
 use prettyless_build::{DocBuilder, Pretty};
 use prettyless_doc::{BuildError, Doc, DocPlace};
 
-/// The documents that every place of nodes can make of the items of an `I`. The making of an item
-/// can fail, and memory may be refused.
+/// The calls of every allocator that make a document of the items of an iterator, of type `I`. The making of an item
+/// can fail, and memory may run out.
 ///
 /// `I` is a parameter of the trait and not of its calls, as for `DocAllocatorOf`.
 pub trait DocAllocatorOver<'a, I: IntoIterator>: DocPlace<'a>
 where
     I::Item: Pretty<'a, Self>,
 {
-    /// The items' documents, appended in order: nothing if there is none. It fails as the making of an item does, and where
-    /// memory is refused.
+    /// The documents of the items, appended in order: nothing if there is no item. It fails as the making of an item
+    /// does, and if memory runs out.
     ///
     /// `docs` has to be an iterator whose `next` may be called, and one that ends: the prover asks for both.
     ///

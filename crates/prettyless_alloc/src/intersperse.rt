@@ -13,17 +13,17 @@ use crate::concat::append_all;
 use prettyless_build::{DocBuilder, Pretty};
 use prettyless_doc::{BuildError, Doc, DocPlace};
 
-/// The documents that every place of nodes can make of the items of an `I` and a separator `S`. The
-/// making of an item or of the separator can fail, and memory may be refused.
+/// The calls of every allocator that make a document of the items of an iterator and a separator, of types `I` and `S`.
+/// The making of an item or of the separator can fail, and memory may run out.
 ///
 /// Both are parameters of the trait and not of its call, as for `DocAllocatorOf`.
 pub trait DocAllocatorBetween<'a, I: IntoIterator, S: Pretty<'a, Self> + Drop>: DocPlace<'a>
 where
     I::Item: Pretty<'a, Self>,
 {
-    /// The items' documents in order, with the separator in each gap: nothing if there is none. The
-    /// separator becomes a document once, and only where there is a gap. It fails as the making of an item or of the
-    /// separator does, and where memory is refused.
+    /// The documents of the items in order, with the separator between each two: nothing if there is no item. The
+    /// separator becomes a document once, and only if there are two items. It fails as the making of an item or of the
+    /// separator does, and if memory runs out.
     ///
     /// `docs` has to be an iterator whose `next` may be called, and one that ends: the prover asks for both.
     ///

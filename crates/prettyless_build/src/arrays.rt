@@ -7,7 +7,7 @@ use crate::builder::DocBuilder;
 use crate::pretty::Pretty;
 use prettyless_doc::{BuildError, Doc, DocPlace};
 
-/// The documents of its items, appended in order. The making of one can fail, and memory may be refused.
+/// The documents of its items, appended in order. The making of one can fail, and memory may run out.
 impl<'a, D: DocPlace<'a>, T: Pretty<'a, D> + Copy, const N: usize> Pretty<'a, D> for [T; N] {
     ghost becomes = { Concatenates T.becomes };
 

@@ -11,7 +11,7 @@ use crate::pretty::Pretty;
 use prettyless_doc::{BuildDoc, BuildError, Doc, DocPlace};
 use prettyless_model::kind::Single;
 
-/// The place of nodes (`.0`), and a document in the making there (`.1`).
+/// A document in the making (`.1`), and the allocator of its nodes (`.0`).
 pub struct DocBuilder<'a, D: DocPlace<'a>>(pub &'a D, pub BuildDoc<'a, D::Doc>);
 
 // By hand: the derived one is not found where a collection of builders is dropped.
@@ -23,7 +23,7 @@ impl<'a, D: DocPlace<'a>> Drop for DocBuilder<'a, D> {
 }
 
 impl<'a, D: DocPlace<'a>> DocBuilder<'a, D> {
-    /// A node that is not placed yet.
+    /// A node that is not allocated yet.
     ///
     /// ```
     /// DocBuilder::new(place, Doc::HardLine) // "\n"
@@ -56,8 +56,8 @@ impl<'a, D: DocPlace<'a>> DocBuilder<'a, D> {
         self.1.doc()
     }
 
-    /// A pointer to the document: its own where it has one, which takes no memory. Else it is that of a new node, and
-    /// fails where memory is refused.
+    /// A pointer to the document, whose node is allocated if that is not done yet. Only that takes memory, and fails if
+    /// memory runs out.
     ///
     /// ```
     /// place.pretty("a")?.into_doc()? // a pointer to "a"
@@ -83,8 +83,8 @@ impl<'a, D: DocPlace<'a>> DocBuilder<'a, D> {
         doc
     }
 
-    /// `append` of what is a builder already. Where one of the two is nothing it is the other as it is,
-    /// which takes no memory; else memory may be refused.
+    /// `append` of what is a builder already. Where one of the two is nothing it is the other as it is, which takes no
+    /// memory; else memory may run out.
     ///
     /// ```
     /// place.pretty("a")?.join(place.pretty("b")?)? // "ab"
@@ -110,7 +110,7 @@ impl<'a, D: DocPlace<'a>> DocBuilder<'a, D> {
     }
 
     /// This document, then `that`. Where one of them is nothing it is the other as it is, and only the making of `that`
-    /// can fail. Else memory may be refused too.
+    /// can fail. Else memory may run out too.
     ///
     /// ```
     /// place.pretty("a")?.append("b")? // "ab"
@@ -127,8 +127,8 @@ impl<'a, D: DocPlace<'a>> DocBuilder<'a, D> {
         self.join(that)
     }
 
-    /// This document, laid flat where it fits the line with what follows up to the next line break, and else broken.
-    /// Where it is nothing, a text or a group, it stays as it is, which takes no memory; else memory may be refused.
+    /// This document, flat if it fits the line together with what follows up to the next line break, and else broken.
+    /// Where it is nothing, a text or a group, it stays as it is, which takes no memory; else memory may run out.
     ///
     /// ```
     /// docs![place, "a", line_or_space(), "b"]?.group()? // "a b" at 3 columns, "a\nb" at 2
@@ -153,9 +153,9 @@ impl<'a, D: DocPlace<'a>> DocBuilder<'a, D> {
         }
     }
 
-    /// This document, laid flat. Where it is nothing, a text or flat already, it stays as it is. A
-    /// hard line break or a payload, which no flat line holds, becomes a document that fails. Neither takes
-    /// memory; else memory may be refused.
+    /// This document, flat whether it fits or not. Where it is nothing, a text or flat already, it stays as it is. A
+    /// hard line break or a payload, which no flat line holds, becomes a document that fails. Neither takes memory;
+    /// else memory may run out.
     ///
     /// ```
     /// docs![place, "a", line_or_space(), "b"]?.flatten()? // "a b" at 2 columns
@@ -174,8 +174,8 @@ impl<'a, D: DocPlace<'a>> DocBuilder<'a, D> {
         }
     }
 
-    /// This document as a line suffix, pending until its line ends. Where it is nothing or one already, it
-    /// stays as it is, which takes no memory; else memory may be refused.
+    /// This document as a line suffix, pending until its line ends. Where it is nothing or one already, it stays as it
+    /// is, which takes no memory; else memory may run out.
     ///
     /// ```
     /// docs![place, place.pretty(" # b")?.as_line_suffix()?, "a"]? // "a # b"

@@ -10,8 +10,8 @@ use prettyless_doc::{BuildDoc, BuildError, Doc, DocPlace};
 use prettyless_model::kind::Pair;
 
 impl<'a, D: DocPlace<'a>> DocBuilder<'a, D> {
-    /// This document where lines are broken, and `that` where they are flat. The making of `that` can
-    /// fail, and memory may be refused.
+    /// This document where lines are broken, and `that` where they are flat. The making of `that` can fail, and memory
+    /// may run out.
     ///
     /// ```
     /// place.pretty("broken")?.flat_alt("flat")?.group()? // "flat" at 4 columns, "broken" at 3
@@ -24,8 +24,7 @@ impl<'a, D: DocPlace<'a>> DocBuilder<'a, D> {
         of_two(Pair::BreakOrFlat, self, flat)
     }
 
-    /// Nothing where lines are broken, and this document where they are flat. It fails where
-    /// memory is refused.
+    /// Nothing where lines are broken, and this document where they are flat. It fails if memory runs out.
     ///
     /// ```
     /// docs![place, "a", place.pretty(";")?.when_group_flat()?, line_or_nil(), "b"]?.group()? // "a;b" at 3 columns, "a\nb" at 2
@@ -37,8 +36,7 @@ impl<'a, D: DocPlace<'a>> DocBuilder<'a, D> {
         of_two(Pair::BreakOrFlat, nothing, self)
     }
 
-    /// This document where lines are broken, and nothing where they are flat. It fails where
-    /// memory is refused.
+    /// This document where lines are broken, and nothing where they are flat. It fails if memory runs out.
     ///
     /// ```
     /// docs![place, "a", place.pretty(",")?.when_group_break()?, line_or_nil(), "b"]?.group()? // "ab" at 2 columns, "a,\nb" at 1
@@ -50,8 +48,8 @@ impl<'a, D: DocPlace<'a>> DocBuilder<'a, D> {
         of_two(Pair::BreakOrFlat, self, nothing)
     }
 
-    /// This document where it can be laid with each text within the width, and else `that`; where lines are flat, this
-    /// one. It fails where memory is refused.
+    /// This document if it can be printed with each text within the width, and else `that`; where lines are flat, this
+    /// one. It fails if memory runs out.
     ///
     /// ```
     /// docs![place, "a", hard_line(), "bcd"]?.union(BuildDoc::Doc(Doc::Nil))? // "a\nbcd" at 3 columns, nothing at 2
@@ -65,8 +63,8 @@ impl<'a, D: DocPlace<'a>> DocBuilder<'a, D> {
         of_two(Pair::Union, self, that)
     }
 
-    /// This document where its first line fits, whatever comes after it, and else `that`; where lines are flat,
-    /// this one. It fails where memory is refused.
+    /// This document if its first line fits, whatever comes after it, and else `that`; where lines are flat, this one.
+    /// It fails if memory runs out.
     ///
     /// ```
     /// docs![place, "a", hard_line(), "bcd"]?.partial_union(BuildDoc::Doc(Doc::Nil))? // "a\nbcd" at 1 column, nothing at 0

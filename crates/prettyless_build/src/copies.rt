@@ -11,8 +11,8 @@ use prettyless_doc::{BuildError, Doc, DocPlace};
 use prettyless_model::kind::Pair;
 
 impl<'a, D: DocPlace<'a>> DocBuilder<'a, D> {
-    /// So many copies of this document, one after the other, also where it is nothing. None is
-    /// nothing, and one is the document as it is: neither takes memory. Else memory may be refused.
+    /// `count` copies of this document, one after the other, also where it is nothing. None is nothing, and one is the
+    /// document as it is: neither takes memory. Else memory may run out.
     ///
     /// ```
     /// place.pretty("ab")?.repeat(3)? // "ababab"
@@ -37,7 +37,7 @@ impl<'a, D: DocPlace<'a>> DocBuilder<'a, D> {
         }
     }
 
-    /// The same document once more. It fails where memory is refused.
+    /// The same document once more. It fails if memory runs out.
     ///
     /// ```
     /// place.pretty("a")?.clone()? // "a"

@@ -11,8 +11,8 @@ use crate::pretty::Pretty;
 use prettyless_doc::{BuildError, Doc, DocPlace, Text};
 
 impl<'a, D: DocPlace<'a>> DocBuilder<'a, D> {
-    /// `before`, this document and `after`, appended. It fails as the making of `before` or of `after` does, and where
-    /// memory is refused. It takes memory only where two of the three are something.
+    /// `before`, this document and `after`, appended. It fails as the making of `before` or of `after` does, and if
+    /// memory runs out. It takes memory only where two of the three are something.
     ///
     /// ```
     /// place.pretty("a")?.enclose("let ", ";")? // "let a;"
@@ -47,7 +47,7 @@ impl<'a, D: DocPlace<'a>> DocBuilder<'a, D> {
         before.join(self)?.join(after)
     }
 
-    /// This document between single quotes. It fails where memory is refused.
+    /// This document between single quotes. It fails if memory runs out.
     ///
     /// ```
     /// place.pretty("a")?.single_quotes()? // "'a'"
@@ -58,7 +58,7 @@ impl<'a, D: DocPlace<'a>> DocBuilder<'a, D> {
         self.between("'", "'")
     }
 
-    /// This document between double quotes. It fails where memory is refused.
+    /// This document between double quotes. It fails if memory runs out.
     ///
     /// ```
     /// place.pretty("a")?.double_quotes()? // "\"a\""
@@ -69,7 +69,7 @@ impl<'a, D: DocPlace<'a>> DocBuilder<'a, D> {
         self.between("\"", "\"")
     }
 
-    /// This document between parentheses. It fails where memory is refused.
+    /// This document between parentheses. It fails if memory runs out.
     ///
     /// ```
     /// place.pretty("a")?.parens()? // "(a)"
@@ -80,7 +80,7 @@ impl<'a, D: DocPlace<'a>> DocBuilder<'a, D> {
         self.between("(", ")")
     }
 
-    /// This document between angle brackets. It fails where memory is refused.
+    /// This document between angle brackets. It fails if memory runs out.
     ///
     /// ```
     /// place.pretty("a")?.angles()? // "<a>"
@@ -91,7 +91,7 @@ impl<'a, D: DocPlace<'a>> DocBuilder<'a, D> {
         self.between("<", ">")
     }
 
-    /// This document between braces. It fails where memory is refused.
+    /// This document between braces. It fails if memory runs out.
     ///
     /// ```
     /// place.pretty("a")?.braces()? // "{a}"
@@ -102,7 +102,7 @@ impl<'a, D: DocPlace<'a>> DocBuilder<'a, D> {
         self.between("{", "}")
     }
 
-    /// This document between square brackets. It fails where memory is refused.
+    /// This document between square brackets. It fails if memory runs out.
     ///
     /// ```
     /// place.pretty("a")?.brackets()? // "[a]"

@@ -10,8 +10,8 @@ use prettyless_doc::{BuildError, Doc, DocPlace};
 use prettyless_model::kind::{Indenting, Single};
 
 impl<'a, D: DocPlace<'a>> DocBuilder<'a, D> {
-    /// This document with its indent moved by so many columns. By 0, or where it is nothing, it stays
-    /// as it is, which takes no memory; else memory may be refused.
+    /// This document with its indent moved by `offset` columns. By 0, or where it is nothing, it stays as it is, which
+    /// takes no memory; else memory may run out.
     ///
     /// ```
     /// docs![place, "a", hard_line(), "b"]?.nest(2)? // "a\n  b"
@@ -30,8 +30,8 @@ impl<'a, D: DocPlace<'a>> DocBuilder<'a, D> {
         Ok(DocBuilder::new(place, Doc::Nest(offset, inner)))
     }
 
-    /// This document with its indent moved right by so many columns, which have to be at most `isize::MAX`. By 0, or where it
-    /// is nothing, it stays as it is, which takes no memory; else memory may be refused.
+    /// This document with its indent moved right by `offset` columns, at most `isize::MAX`. By 0, or where it is
+    /// nothing, it stays as it is, which takes no memory; else memory may run out.
     ///
     /// ```
     /// docs![place, "a", hard_line(), "b"]?.indent(2)? // "a\n  b"
@@ -45,8 +45,8 @@ impl<'a, D: DocPlace<'a>> DocBuilder<'a, D> {
         self.nest(offset as isize)
     }
 
-    /// This document with its indent moved left by so many columns, which have to be at most `isize::MAX`. By 0, or where it
-    /// is nothing, it stays as it is, which takes no memory; else memory may be refused.
+    /// This document with its indent moved left by `offset` columns, at most `isize::MAX`. By 0, or where it is
+    /// nothing, it stays as it is, which takes no memory; else memory may run out.
     ///
     /// ```
     /// docs![place, "a", hard_line(), "b"]?.dedent(1)?.indent(2)? // "a\n b"
@@ -60,8 +60,8 @@ impl<'a, D: DocPlace<'a>> DocBuilder<'a, D> {
         self.nest(-(offset as isize))
     }
 
-    /// This document with indent 0. Where it is nothing, or has that already, it stays as it is,
-    /// which takes no memory; else memory may be refused.
+    /// This document with indent 0. Where it is nothing, or has that already, it stays as it is, which takes no memory;
+    /// else memory may run out.
     ///
     /// ```
     /// docs![place, "a", hard_line(), "b"]?.dedent_to_root()?.nest(2)? // "a\nb"
@@ -77,8 +77,8 @@ impl<'a, D: DocPlace<'a>> DocBuilder<'a, D> {
         }
     }
 
-    /// This document with its indent at the column where it starts. Where it is nothing, or has that
-    /// already, it stays as it is, which takes no memory; else memory may be refused.
+    /// This document with its indent at the column where it starts. Where it is nothing, or has that already, it stays
+    /// as it is, which takes no memory; else memory may run out.
     ///
     /// ```
     /// docs![place, "a = ", docs![place, "b", hard_line(), "c"]?.align()?]? // "a = b\n    c"

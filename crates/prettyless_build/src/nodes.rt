@@ -7,7 +7,7 @@ use crate::builder::DocBuilder;
 use prettyless_doc::{BuildError, Doc, DocPlace};
 use prettyless_model::kind::{Pair, Single};
 
-/// A node of this kind around the document. It fails where memory is refused.
+/// A node of this kind around the document. It fails if memory runs out.
 ///
 /// ```
 /// around(Single::Indented(Indenting::Nest(2)), docs![place, "a", hard_line(), "b"]?)? // "a\n  b"
@@ -24,7 +24,7 @@ pub fn around<'a, D: DocPlace<'a>>(
     Ok(DocBuilder::new(place, Doc::around(kind, inner)))
 }
 
-/// A node of this kind of the two documents. It fails where memory is refused.
+/// A node of this kind of the two documents. It fails if memory runs out.
 ///
 /// ```
 /// of_two(Pair::Append, place.pretty("a")?, place.pretty("b")?)? // "ab"

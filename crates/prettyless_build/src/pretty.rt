@@ -6,7 +6,7 @@ ghost use Rattle.prettyless_text.specs.declared.text.BuildError.{BuildError};
 use crate::builder::DocBuilder;
 use prettyless_doc::{BuildDoc, BuildError, Doc, DocPlace};
 
-/// What can become a document.
+/// A value that can become a document.
 pub trait Pretty<'a, D: DocPlace<'a>> {
     // the trees that it may become
     ghost becomes: { Self → Tree → Type 0 };
@@ -14,7 +14,8 @@ pub trait Pretty<'a, D: DocPlace<'a>> {
     // the errors that it may answer in place of a tree
     ghost refuses: { Self → BuildError → Type 0 };
 
-    /// The document that it becomes, in `place`. Where it fails, by an error that `refuses` names, the value is given up.
+    /// The document that the value becomes, in `place`. Where that fails, by an error that `refuses` names, the value
+    /// is dropped.
     ///
     /// ```
     /// Pretty::pretty("a", place)? // "a"
@@ -48,7 +49,7 @@ impl<'a, D: DocPlace<'a>> Pretty<'a, D> for BuildDoc<'a, D::Doc> {
     }
 }
 
-/// Itself, in the place of nodes that it has. It takes no memory.
+/// Itself, in the allocator that it has. It takes no memory.
 impl<'a, D: DocPlace<'a>> Pretty<'a, D> for DocBuilder<'a, D> {
     ghost becomes = { λ b y. y ≡ built D.Doc.tree b.1 };
 
@@ -75,7 +76,7 @@ impl<'a, D: DocPlace<'a>, T: Pretty<'a, D>> Pretty<'a, D> for Option<T> {
     }
 }
 
-/// Nothing. It takes no memory.
+/// The empty document. It takes no memory.
 impl<'a, D: DocPlace<'a>> Pretty<'a, D> for () {
     ghost becomes = { λ _ y. y ≡ Nil };
 

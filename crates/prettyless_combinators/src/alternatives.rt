@@ -11,8 +11,8 @@ use prettyless_build::{DocBuilder, Pretty};
 use prettyless_doc::{BuildDoc, BuildError, DocPlace};
 use prettyless_model::choice::{ColumnTest, NestingTest};
 
-/// The first document where it can be laid with each text, and each line of a payload, within the width, and else the
-/// second; where lines are flat, the first.
+/// The first document if it can be printed with each text, or each line of a multiline text, within the width, and else
+/// the second; where lines are flat, the first.
 #[derive(Clone, Debug, Drop)]
 pub struct Union<T, U>(pub(crate) T, pub(crate) U);
 
@@ -30,7 +30,7 @@ impl<'a, D: DocPlace<'a>, T: Pretty<'a, D>, U: Pretty<'a, D>> Pretty<'a, D> for 
     }
 }
 
-/// The first document where its first line fits, whatever comes after that line, and else the second; where lines are
+/// The first document if its first line fits, whatever comes after that line, and else the second; where lines are
 /// flat, the first.
 #[derive(Clone, Debug, Drop)]
 pub struct PartialUnion<T, U>(pub(crate) T, pub(crate) U);
@@ -71,7 +71,7 @@ impl<'a, D: DocPlace<'a>, T: Pretty<'a, D>, U: Pretty<'a, D>> Pretty<'a, D> for 
     }
 }
 
-/// The first document where the test of the column at which it would start holds, else the second, flat or broken.
+/// The first document if the test holds at the column where it would start, and else the second, in flat lines too.
 #[derive(Clone, Debug, Drop)]
 pub struct IfColumn<T, U>(pub(crate) ColumnTest, pub(crate) T, pub(crate) U);
 
@@ -87,7 +87,7 @@ impl<'a, D: DocPlace<'a>, T: Pretty<'a, D>, U: Pretty<'a, D>> Pretty<'a, D> for 
     }
 }
 
-/// The first document where the test of the indent holds, else the second, flat or broken.
+/// The first document if the test holds for the indent, and else the second, in flat lines too.
 #[derive(Clone, Debug, Drop)]
 pub struct IfNesting<T, U>(pub(crate) NestingTest, pub(crate) T, pub(crate) U);
 

@@ -23,7 +23,7 @@ use prettyless_model::choice::{ColumnTest, NestingTest};
 use std::fmt;
 use types::*;
 
-/// Nothing.
+/// The empty document.
 ///
 /// ```
 /// ("a", nil(), "b") // "ab"
@@ -32,7 +32,7 @@ pub fn nil() -> Nil {
     Nil
 }
 
-/// A document that cannot be laid: a render that reaches it fails.
+/// A document that cannot be printed: a render that reaches it fails.
 ///
 /// ```
 /// ("a", fail()) // writes "a", then `RenderError::Document`
@@ -86,8 +86,8 @@ pub fn soft_line_or_space() -> SoftLineOrSpace {
     SoftLineOrSpace
 }
 
-/// A line break, under `flatten` too. It keeps the groups around it from being flat. It is nothing on a fresh line
-/// where no suffix is pending.
+/// A line break, left out on a fresh line where no suffix is pending. It breaks under `flatten` too, and keeps the
+/// groups around it from being flat.
 ///
 /// ```
 /// ("a", weak_line(), weak_line(), "b") // "a\nb"
@@ -96,7 +96,7 @@ pub fn weak_line() -> WeakLine {
     WeakLine
 }
 
-/// The text of one space.
+/// A text of one space.
 ///
 /// ```
 /// ("a", space(), "b") // "a b"
@@ -105,7 +105,7 @@ pub fn space() -> Space {
     Space
 }
 
-/// A space; nothing at the start of a line, and nothing at its end unless a suffix is pending there.
+/// A space, left out at the start of a line, and at the end of a line unless a suffix is pending there.
 ///
 /// ```
 /// ("a", weak_space(), hard_line(), "b") // "a\nb"
@@ -114,7 +114,7 @@ pub fn weak_space() -> WeakSpace {
     WeakSpace
 }
 
-/// Nothing, but it keeps the groups around it from being flat.
+/// An empty document that keeps the groups around it from being flat.
 ///
 /// ```
 /// group(("a", line_or_space(), expand_parent(), "b")) // "a\nb"
@@ -123,7 +123,7 @@ pub fn expand_parent() -> ExpandParent {
     ExpandParent
 }
 
-/// So many spaces.
+/// A run of `count` spaces.
 ///
 /// ```
 /// ("a", spaces(3), "b") // "a   b"
@@ -134,7 +134,7 @@ pub fn spaces(count: usize) -> Spaces
     Spaces(count)
 }
 
-/// What `{}` shows of the value: an empty text where it shows nothing.
+/// The value as `{}` formats it: an empty text where that is nothing.
 ///
 /// ```
 /// ("a", as_string(42)) // "a42"
@@ -145,7 +145,7 @@ pub fn as_string<T: fmt::Display>(value: T) -> AsString<T>
     AsString(value)
 }
 
-/// A text that counts as so many columns, for instance one with marks that are not shown.
+/// A text that counts as `width` columns, for instance one with marks that are not shown.
 ///
 /// ```
 /// text_with_width(CowStr::Borrowed("<b>bold"), 4) // "<b>bold"
@@ -157,8 +157,8 @@ pub fn text_with_width<'a>(text: CowStr<'a>, width: usize) -> TextWithWidth<'a>
     TextWithWidth(text, width)
 }
 
-/// A text whose line ends, each LF or CR, are written as they are, with no indent after them. It keeps the groups
-/// around it from being flat, and fails under `flatten`.
+/// A text of several lines, written unchanged, with no indent after its line ends. Each LF and each CR ends a line. It
+/// keeps the groups around it from being flat, and fails under `flatten`.
 ///
 /// ```
 /// nest(2, multiline_text(CowStr::Borrowed("a\nb"))) // "a\nb"
@@ -169,7 +169,7 @@ pub fn multiline_text<'a>(text: CowStr<'a>) -> MultilineText<'a>
     MultilineText(text)
 }
 
-/// The document with its indent moved by so many columns.
+/// The document with its indent moved by `offset` columns.
 ///
 /// ```
 /// nest(2, ("a", hard_line(), "b")) // "a\n  b"
@@ -181,7 +181,7 @@ pub fn nest<T>(offset: isize, doc: T) -> Nest<T>
     Nest(offset, doc)
 }
 
-/// The document with its indent moved right by so many columns. They have to be at most `isize::MAX`.
+/// The document with its indent moved right by `offset` columns. These have to be at most `isize::MAX`.
 ///
 /// ```
 /// indent(2, ("a", hard_line(), "b")) // "a\n  b"
@@ -194,7 +194,7 @@ pub fn indent<T>(offset: usize, doc: T) -> Nest<T>
     Nest(offset as isize, doc)
 }
 
-/// The document with its indent moved left by so many columns. They have to be at most `isize::MAX`.
+/// The document with its indent moved left by `offset` columns. These have to be at most `isize::MAX`.
 ///
 /// ```
 /// indent(2, dedent(1, ("a", hard_line(), "b"))) // "a\n b"
@@ -207,7 +207,7 @@ pub fn dedent<T>(offset: usize, doc: T) -> Nest<T>
     Nest(-(offset as isize), doc)
 }
 
-/// The document, laid flat where it fits the line with what follows up to the next line break, and else broken.
+/// The document, flat if it fits the line together with what follows up to the next line break, and else broken.
 ///
 /// ```
 /// group(("a", line_or_space(), "b")) // "a b" at 3 columns, "a\nb" at 2
@@ -240,8 +240,7 @@ pub fn dedent_to_root<T>(doc: T) -> DedentToRoot<T>
     DedentToRoot(doc)
 }
 
-/// The document, laid flat whether it fits or not. A hard line or a payload shown in it fails; a weak line still
-/// breaks.
+/// The document, flat whether it fits or not. A hard line or a payload shown in it fails; a weak line still breaks.
 ///
 /// ```
 /// flatten(("a", line_or_space(), "b")) // "a b" at 2 columns
@@ -263,8 +262,8 @@ pub fn line_suffix<T>(doc: T) -> LineSuffix<T>
     LineSuffix(doc)
 }
 
-/// The first document where it can be laid with each text, and each line of a payload, within the width. Else the
-/// second; where lines are flat, the first.
+/// The first document if it can be printed with each text, or each line of a multiline text, within the width, and else
+/// the second; where lines are flat, the first.
 ///
 /// ```
 /// union(("a", hard_line(), "bcd"), "e") // "a\nbcd" at 3 columns, "e" at 2
@@ -276,7 +275,7 @@ pub fn union<T, U>(first: T, second: U) -> Union<T, U>
     Union(first, second)
 }
 
-/// The first document where its first line fits, whatever comes after that line, and else the second; where lines are
+/// The first document if its first line fits, whatever comes after that line, and else the second; where lines are
 /// flat, the first.
 ///
 /// ```
@@ -301,7 +300,7 @@ pub fn flat_alt<T, U>(broken: T, flat: U) -> FlatAlt<T, U>
     FlatAlt(broken, flat)
 }
 
-/// The first document where the test of the column at which it would start holds, else the second, flat or broken.
+/// The first document if the test holds at the column where it would start, and else the second, in flat lines too.
 ///
 /// ```
 /// ("ab", if_column(ColumnTest::AtMost(1), "c", "d")) // "abd"
@@ -314,7 +313,7 @@ pub fn if_column<T, U>(test: ColumnTest, first: T, second: U) -> IfColumn<T, U>
     IfColumn(test, first, second)
 }
 
-/// The first document where the test of the indent holds, else the second, flat or broken.
+/// The first document if the test holds for the indent, and else the second, in flat lines too.
 ///
 /// ```
 /// nest(2, if_nesting(NestingTest::AtLeast(2), "c", "d")) // "c"
@@ -327,7 +326,7 @@ pub fn if_nesting<T, U>(test: NestingTest, first: T, second: U) -> IfNesting<T, 
     IfNesting(test, first, second)
 }
 
-/// The documents of all items, appended in order: nothing if there is none.
+/// The documents of the items, appended in order: nothing if there is no item.
 ///
 /// `docs` has to be an iterator whose `next` may be called, and one that ends: the prover asks for both.
 ///
@@ -341,8 +340,8 @@ pub fn concat<I: IntoIterator>(docs: I) -> Concat<I::IntoIter>
     Concat(docs.into_iter())
 }
 
-/// The documents of all items in order, with the separator in each gap: nothing if there is none. The
-/// separator becomes a document once, and only where there is a gap.
+/// The documents of the items in order, with the separator between each two: nothing if there is no item. The separator
+/// becomes a document once, and only if there are two items.
 ///
 /// `docs` has to be an iterator whose `next` may be called, and one that ends: the prover asks for both.
 ///
@@ -357,7 +356,7 @@ pub fn intersperse<I: IntoIterator, S>(separator: S, docs: I) -> Intersperse<I::
     Intersperse(docs.into_iter(), separator)
 }
 
-/// So many copies of the document, one after the other.
+/// `count` copies of the document, one after the other.
 ///
 /// ```
 /// repeat(3, "ab") // "ababab"

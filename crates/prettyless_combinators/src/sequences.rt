@@ -56,7 +56,7 @@ where
     }
 }
 
-/// The documents of what an iterator has left, in order, with a separator in each gap.
+/// The documents of what an iterator has left, in order, with a separator between each two.
 ///
 /// It is `Clone` where its iterator is a `CloneIterator` and its separator is `Clone`. A clone holds clones of both, and fails
 /// only where one of these does.

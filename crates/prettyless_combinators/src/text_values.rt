@@ -24,7 +24,7 @@ fn clone_text<'a>(text: &CowStr<'a>) -> Result<CowStr<'a>, AllocError>
     }
 }
 
-/// What `{}` shows of a value, as `as_string` of a place of nodes makes it.
+/// A value as `{}` formats it, made as `as_string` of an allocator makes it.
 #[derive(Clone, Debug, Drop)]
 pub struct AsString<T>(pub(crate) T);
 
@@ -39,8 +39,8 @@ impl<'a, D: DocPlace<'a>, T: fmt::Display + Drop> Pretty<'a, D> for AsString<T> 
     }
 }
 
-/// A text that counts as so many columns, as `text_with_width` of a place of nodes makes it. Only an owned text takes
-/// memory, and fails where that is refused; so it is with a clone.
+/// A text and the columns that it counts as, made as `text_with_width` of an allocator makes it. Only an owned text
+/// takes memory, and fails if memory runs out; a clone does too.
 #[derive(Debug, Drop)]
 pub struct TextWithWidth<'a>(pub(crate) CowStr<'a>, pub(crate) usize);
 
@@ -65,8 +65,8 @@ impl<'a, D: DocPlace<'a>> Pretty<'a, D> for TextWithWidth<'a> {
     }
 }
 
-/// A text whose line ends are written as they are, as `multiline_text` of a place of nodes makes it. Only an owned
-/// text takes memory, and fails where that is refused; so it is with a clone.
+/// A text of several lines, made as `multiline_text` of an allocator makes it. Only an owned text takes memory, and
+/// fails if memory runs out; a clone does too.
 #[derive(Debug, Drop)]
 pub struct MultilineText<'a>(pub(crate) CowStr<'a>);
 

@@ -9,7 +9,7 @@ use prettyless_alloc::DocAllocator;
 use prettyless_build::{DocBuilder, Pretty};
 use prettyless_doc::{BuildError, DocPlace};
 
-/// Nothing. It takes no memory.
+/// The empty document. It takes no memory.
 #[derive(Clone, Copy, Debug)]
 pub struct Nil;
 
@@ -23,7 +23,7 @@ impl<'a, D: DocPlace<'a>> Pretty<'a, D> for Nil {
     }
 }
 
-/// A document that cannot be laid: a render that reaches it fails. It takes no memory.
+/// A document that cannot be printed: a render that reaches it fails. It takes no memory.
 #[derive(Clone, Copy, Debug)]
 pub struct Fail;
 
@@ -51,7 +51,7 @@ impl<'a, D: DocPlace<'a>> Pretty<'a, D> for HardLine {
     }
 }
 
-/// A line break, or nothing where lines are flat. It fails where memory is refused.
+/// A line break, or nothing where lines are flat. It fails if memory runs out.
 #[derive(Clone, Copy, Debug)]
 pub struct LineOrNil;
 
@@ -65,7 +65,7 @@ impl<'a, D: DocPlace<'a>> Pretty<'a, D> for LineOrNil {
     }
 }
 
-/// A line break, or one space where lines are flat. It fails where memory is refused.
+/// A line break, or one space where lines are flat. It fails if memory runs out.
 #[derive(Clone, Copy, Debug)]
 pub struct LineOrSpace;
 
@@ -79,8 +79,8 @@ impl<'a, D: DocPlace<'a>> Pretty<'a, D> for LineOrSpace {
     }
 }
 
-/// Nothing, or a line break where what follows, up to the next possible break, would go past the width. It fails where
-/// memory is refused.
+/// Nothing, or a line break where what follows, up to the next possible break, would go past the width. It fails if
+/// memory runs out.
 #[derive(Clone, Copy, Debug)]
 pub struct SoftLineOrNil;
 
@@ -94,8 +94,8 @@ impl<'a, D: DocPlace<'a>> Pretty<'a, D> for SoftLineOrNil {
     }
 }
 
-/// One space, or a line break where what follows, up to the next possible break, would go past the width. It fails where
-/// memory is refused.
+/// One space, or a line break where what follows, up to the next possible break, would go past the width. It fails if
+/// memory runs out.
 #[derive(Clone, Copy, Debug)]
 pub struct SoftLineOrSpace;
 
@@ -109,8 +109,8 @@ impl<'a, D: DocPlace<'a>> Pretty<'a, D> for SoftLineOrSpace {
     }
 }
 
-/// A line break, under `flatten` too. It keeps the groups around it from being flat. It is nothing on a fresh line
-/// where no suffix is pending. It takes no memory.
+/// A line break, left out on a fresh line where no suffix is pending. It breaks under `flatten` too, and keeps the
+/// groups around it from being flat. It takes no memory.
 #[derive(Clone, Copy, Debug)]
 pub struct WeakLine;
 
@@ -124,7 +124,7 @@ impl<'a, D: DocPlace<'a>> Pretty<'a, D> for WeakLine {
     }
 }
 
-/// The text of one space. It takes no memory.
+/// A text of one space. It takes no memory.
 #[derive(Clone, Copy, Debug)]
 pub struct Space;
 
@@ -138,7 +138,7 @@ impl<'a, D: DocPlace<'a>> Pretty<'a, D> for Space {
     }
 }
 
-/// A space; nothing at the start of a line, and nothing at its end unless a suffix is pending there. It takes no
+/// A space, left out at the start of a line, and at the end of a line unless a suffix is pending there. It takes no
 /// memory.
 #[derive(Clone, Copy, Debug)]
 pub struct WeakSpace;
@@ -153,7 +153,7 @@ impl<'a, D: DocPlace<'a>> Pretty<'a, D> for WeakSpace {
     }
 }
 
-/// Nothing, but it keeps the groups around it from being flat. It takes no memory.
+/// An empty document that keeps the groups around it from being flat. It takes no memory.
 #[derive(Clone, Copy, Debug)]
 pub struct ExpandParent;
 
@@ -167,7 +167,7 @@ impl<'a, D: DocPlace<'a>> Pretty<'a, D> for ExpandParent {
     }
 }
 
-/// So many spaces, in texts of at most 100. Up to 100 it takes no memory; beyond that memory may be refused.
+/// A number of spaces, in texts of at most 100. Up to 100 it takes no memory; beyond that memory may run out.
 #[derive(Clone, Copy, Debug)]
 pub struct Spaces(pub(crate) usize);
 

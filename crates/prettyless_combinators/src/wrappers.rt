@@ -10,7 +10,7 @@ use prettyless_alloc::DocAllocatorOf;
 use prettyless_build::{DocBuilder, Pretty};
 use prettyless_doc::{BuildError, DocPlace};
 
-/// A document with its indent moved by so many columns.
+/// A document, and the number of columns by which its indent is moved.
 #[derive(Clone, Debug, Drop)]
 pub struct Nest<T>(pub(crate) isize, pub(crate) T);
 
@@ -25,7 +25,7 @@ impl<'a, D: DocPlace<'a>, T: Pretty<'a, D>> Pretty<'a, D> for Nest<T> {
     }
 }
 
-/// So many copies of a document, one after the other.
+/// A document to be repeated, and how often.
 #[derive(Clone, Debug, Drop)]
 pub struct Repeat<T>(pub(crate) usize, pub(crate) T);
 
@@ -40,7 +40,7 @@ impl<'a, D: DocPlace<'a>, T: Pretty<'a, D>> Pretty<'a, D> for Repeat<T> {
     }
 }
 
-/// A document that is laid flat where it fits the line with what follows up to the next line break, and else broken.
+/// A document that is flat if it fits the line together with what follows up to the next line break, and else broken.
 #[derive(Clone, Debug, Drop)]
 pub struct Group<T>(pub(crate) T);
 
@@ -85,7 +85,7 @@ impl<'a, D: DocPlace<'a>, T: Pretty<'a, D>> Pretty<'a, D> for DedentToRoot<T> {
     }
 }
 
-/// A document that is laid flat whether it fits or not. A hard line or a payload shown in it fails; a weak line still
+/// A document that is flat whether it fits or not. A hard line or a payload shown in it fails; a weak line still
 /// breaks.
 #[derive(Clone, Debug, Drop)]
 pub struct Flatten<T>(pub(crate) T);

@@ -9,7 +9,7 @@ use crate::place::DocPlace;
 use crate::text::BuildError;
 
 impl<'a, T: DocPtr<'a>> Doc<'a, T> {
-    /// The same document, its pointers cloned by their place. It fails where memory is refused.
+    /// The same document, its pointers cloned by their allocator. It fails if memory runs out.
     pub fn clone<D: DocPlace<'a, Doc = T>>(&self, place: &'a D) -> Result<Self, BuildError>
         ensures ok { IfOk result (λ d. tree_of T.tree d ≡ tree_of T.tree self.now) }
         ensures err { IfErr result IsMemory }
@@ -25,8 +25,8 @@ impl<'a, T: DocPtr<'a>> Doc<'a, T> {
 }
 
 impl<'a, T: DocPtr<'a>> BuildDoc<'a, T> {
-    /// The same document: a clone of its pointer, or of the node that is not placed yet. It fails
-    /// where memory is refused.
+    /// The same document: a clone of its pointer, or of the node that is not allocated yet. It fails if memory runs
+    /// out.
     pub fn clone<D: DocPlace<'a, Doc = T>>(&self, place: &'a D) -> Result<Self, BuildError>
         ensures ok { IfOk result (λ d. built T.tree d ≡ built T.tree self.now) }
         ensures err { IfErr result IsMemory }

@@ -15,7 +15,7 @@ use std::alloc::Global;
 use std::fmt;
 
 impl<'a, T: DocPtr<'a>> Doc<'a, T> {
-    /// Nothing.
+    /// The empty document.
     ///
     /// ```
     /// Doc::nil() // ""
@@ -26,7 +26,7 @@ impl<'a, T: DocPtr<'a>> Doc<'a, T> {
         Doc::Nil
     }
 
-    /// A document that cannot be laid: a render that reaches it fails.
+    /// A document that cannot be printed: a render that reaches it fails.
     ///
     /// ```
     /// Doc::fail() // its render answers `RenderError::Document`
@@ -59,8 +59,8 @@ impl<'a, T: DocPtr<'a>> Doc<'a, T> {
         Doc::hard_line()
     }
 
-    /// A line break, under `flatten` too. It keeps the groups around it from being flat. It is nothing on a fresh line
-    /// where no suffix is pending.
+    /// A line break, left out on a fresh line where no suffix is pending. It breaks under `flatten` too, and keeps the
+    /// groups around it from being flat.
     ///
     /// ```
     /// Doc::weak_line() // "\n" after a text
@@ -71,7 +71,7 @@ impl<'a, T: DocPtr<'a>> Doc<'a, T> {
         Doc::WeakLine
     }
 
-    /// The text of one space.
+    /// A text of one space.
     ///
     /// ```
     /// Doc::space() // " "
@@ -82,7 +82,7 @@ impl<'a, T: DocPtr<'a>> Doc<'a, T> {
         Doc::Text(Text::Borrowed(" "))
     }
 
-    /// A space; nothing at the start of a line, and nothing at its end unless a suffix is pending there.
+    /// A space, left out at the start of a line, and at the end of a line unless a suffix is pending there.
     ///
     /// ```
     /// Doc::weak_space() // " " between two texts
@@ -93,7 +93,7 @@ impl<'a, T: DocPtr<'a>> Doc<'a, T> {
         Doc::WeakSpace
     }
 
-    /// Nothing, but it keeps the groups around it from being flat.
+    /// An empty document that keeps the groups around it from being flat.
     ///
     /// ```
     /// Doc::expand_parent() // ""
@@ -106,7 +106,7 @@ impl<'a, T: DocPtr<'a>> Doc<'a, T> {
 }
 
 impl<'a, T> Doc<'a, T> {
-    /// A line break, or one space where lines are flat. It fails where memory is refused.
+    /// A line break, or one space where lines are flat. It fails if memory runs out.
     ///
     /// ```
     /// Doc::line(place)? // "\n", or " " where lines are flat
@@ -121,7 +121,7 @@ impl<'a, T> Doc<'a, T> {
         Ok(Doc::BreakOrFlat(broken, flat))
     }
 
-    /// A line break, or nothing where lines are flat. It fails where memory is refused.
+    /// A line break, or nothing where lines are flat. It fails if memory runs out.
     ///
     /// ```
     /// Doc::line_(place)? // "\n", or nothing where lines are flat
@@ -138,7 +138,7 @@ impl<'a, T> Doc<'a, T> {
 }
 
 impl<'a, D: DocPtr<'a>> BuildDoc<'a, D> {
-    /// Nothing.
+    /// The empty document.
     ///
     /// ```
     /// BuildDoc::nil() // ""
@@ -149,7 +149,7 @@ impl<'a, D: DocPtr<'a>> BuildDoc<'a, D> {
         BuildDoc::Doc(Doc::nil())
     }
 
-    /// A document that cannot be laid: a render that reaches it fails.
+    /// A document that cannot be printed: a render that reaches it fails.
     ///
     /// ```
     /// BuildDoc::fail() // its render answers `RenderError::Document`
@@ -182,8 +182,8 @@ impl<'a, D: DocPtr<'a>> BuildDoc<'a, D> {
         BuildDoc::Doc(Doc::hardline())
     }
 
-    /// A line break, under `flatten` too. It keeps the groups around it from being flat. It is nothing on a fresh line
-    /// where no suffix is pending.
+    /// A line break, left out on a fresh line where no suffix is pending. It breaks under `flatten` too, and keeps the
+    /// groups around it from being flat.
     ///
     /// ```
     /// BuildDoc::weak_line() // "\n" after a text
@@ -194,7 +194,7 @@ impl<'a, D: DocPtr<'a>> BuildDoc<'a, D> {
         BuildDoc::Doc(Doc::weak_line())
     }
 
-    /// The text of one space.
+    /// A text of one space.
     ///
     /// ```
     /// BuildDoc::space() // " "
@@ -205,7 +205,7 @@ impl<'a, D: DocPtr<'a>> BuildDoc<'a, D> {
         BuildDoc::Doc(Doc::space())
     }
 
-    /// A space; nothing at the start of a line, and nothing at its end unless a suffix is pending there.
+    /// A space, left out at the start of a line, and at the end of a line unless a suffix is pending there.
     ///
     /// ```
     /// BuildDoc::weak_space() // " " between two texts
@@ -216,7 +216,7 @@ impl<'a, D: DocPtr<'a>> BuildDoc<'a, D> {
         BuildDoc::Doc(Doc::weak_space())
     }
 
-    /// Nothing, but it keeps the groups around it from being flat.
+    /// An empty document that keeps the groups around it from being flat.
     ///
     /// ```
     /// BuildDoc::expand_parent() // ""
@@ -227,9 +227,9 @@ impl<'a, D: DocPtr<'a>> BuildDoc<'a, D> {
         BuildDoc::Doc(Doc::expand_parent())
     }
 
-    /// A text, written as it is: nothing if it is empty. It counts as its bytes if it is ASCII, and else as its display
-    /// width. A line end in it is not seen by the layout: `multiline_text` is for such texts. Only an owned
-    /// text takes memory, and fails where that is refused.
+    /// A text of one line, written unchanged: nothing if it is empty. It counts as its bytes if it is ASCII, and else
+    /// as its display width. A line end in it is not seen by the layout: `multiline_text` is for such texts. Only an
+    /// owned text takes memory, and fails if memory runs out.
     ///
     /// ```
     /// BuildDoc::text(alloc, CowStr::Borrowed("你好"))? // "你好", four columns
@@ -242,10 +242,10 @@ impl<'a, D: DocPtr<'a>> BuildDoc<'a, D> {
         Ok(BuildDoc::Doc(Doc::text(alloc, text)?))
     }
 
-    /// What `{}` shows of the value: an empty text where it shows nothing. It counts as its bytes if it is ASCII, and
+    /// The value as `{}` formats it: an empty text where that is nothing. It counts as its bytes if it is ASCII, and
     /// else as its display width.
     ///
-    /// Answers `Memory` where memory was refused, and `Display` where only the value's formatting failed. No clause says
+    /// Answers `Memory` where memory ran out, and `Display` where only the value's formatting failed. No clause says
     /// which of the two comes.
     ///
     /// ```
@@ -257,9 +257,9 @@ impl<'a, D: DocPtr<'a>> BuildDoc<'a, D> {
         Ok(BuildDoc::Doc(Doc::as_string(alloc, value)?))
     }
 
-    /// A text whose line ends, each LF or CR, are written as they are, with no indent after them. It keeps the groups
-    /// around it from being flat, and fails under `flatten`. Without one it is as `text` makes it. Only an owned
-    /// text takes memory, and fails where that is refused.
+    /// A text of several lines, written unchanged, with no indent after its line ends. Each LF and each CR ends a line.
+    /// It keeps the groups around it from being flat, and fails under `flatten`. Without a line end it is as `text`
+    /// makes it. Only an owned text takes memory, and fails if memory runs out.
     ///
     /// ```
     /// BuildDoc::multiline_text(alloc, CowStr::Borrowed("a\nb"))? // "a\nb"
@@ -274,7 +274,7 @@ impl<'a, D: DocPtr<'a>> BuildDoc<'a, D> {
 }
 
 impl<'a, T> BuildDoc<'a, T> {
-    /// A line break, or one space where lines are flat. It fails where memory is refused.
+    /// A line break, or one space where lines are flat. It fails if memory runs out.
     ///
     /// ```
     /// BuildDoc::line(place)? // "\n", or " " where lines are flat
@@ -288,7 +288,7 @@ impl<'a, T> BuildDoc<'a, T> {
         Ok(BuildDoc::DocPtr(place.alloc(line)?))
     }
 
-    /// A line break, or nothing where lines are flat. It fails where memory is refused.
+    /// A line break, or nothing where lines are flat. It fails if memory runs out.
     ///
     /// ```
     /// BuildDoc::line_(place)? // "\n", or nothing where lines are flat

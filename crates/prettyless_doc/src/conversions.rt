@@ -5,7 +5,7 @@ ghost use Rattle.prettyless_doc.specs.declared.doc.BuildDoc.TheVariants.{Doc as 
 
 use crate::doc::{BuildDoc, Doc};
 
-/// Nothing.
+/// The empty document.
 impl<'a, T> Default for Doc<'a, T> {
     ghost is_default = { λ d. d ≡ Nil };
 
@@ -14,7 +14,7 @@ impl<'a, T> Default for Doc<'a, T> {
     }
 }
 
-/// Nothing.
+/// The empty document.
 impl<'a, D> Default for BuildDoc<'a, D> {
     ghost is_default = { λ d. d ≡ Plain Nil };
 
@@ -23,7 +23,7 @@ impl<'a, D> Default for BuildDoc<'a, D> {
     }
 }
 
-/// A node that is not placed yet.
+/// A node that is not allocated yet.
 impl<'a, D> From<Doc<'a, D>> for BuildDoc<'a, D> {
     ghost from_gives = { λ d b. b ≡ Plain d };
 

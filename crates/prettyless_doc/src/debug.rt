@@ -16,7 +16,7 @@ impl<'a, T: DocPtr<'a>> fmt::Debug for Doc<'a, T> {
     }
 }
 
-/// Shows the document, whether its node is placed or not.
+/// Shows the document, whether its node is allocated or not.
 impl<'a, D: DocPtr<'a>> fmt::Debug for BuildDoc<'a, D> {
     fn fmt<W: fmt::Write>(&self, f: &mut fmt::Formatter<W>) -> fmt::Result {
         self.doc().fmt(f)

@@ -9,10 +9,10 @@ use prettyless_model::choice::{ColumnTest, NestingTest};
 /// A node of a document. `T` is the pointer to the nodes below it.
 #[derive(Drop)]
 pub enum Doc<'a, T> {
-    /// Nothing.
+    /// The empty document.
     Nil,
-    /// A document that cannot be laid: a render that reaches it answers `RenderError::Document`, and a union in broken
-    /// lines rejects a first branch whose laying reaches it.
+    /// A document that cannot be printed: a render that reaches it answers `RenderError::Document`, and a union in
+    /// broken lines rejects a first branch whose printing reaches it.
     Fail,
     /// A text, counted as one column a byte.
     Text(Text<'a>),
@@ -21,46 +21,45 @@ pub enum Doc<'a, T> {
     /// A text that holds line ends of its own, and is written byte for byte. It keeps the groups around it from being
     /// flat, and fails under `flatten`.
     MultilineText(MultilineTextData<'a>),
-    /// A space; nothing at the start of a line, and nothing at its end unless a suffix is pending there.
+    /// A space, left out at the start of a line, and at the end of a line unless a suffix is pending there.
     WeakSpace,
     /// A line break. It keeps the groups around it from being flat, and fails under `flatten`.
     HardLine,
-    /// A line break, under `flatten` too. It keeps the groups around it from being flat. It is nothing on a fresh line
-    /// where no suffix is pending.
+    /// A line break, left out on a fresh line where no suffix is pending. It breaks under `flatten` too, and keeps the
+    /// groups around it from being flat.
     WeakLine,
     /// Two documents, one after the other.
     Append(T, T),
     /// A document that stays pending until its line ends, at the next line break or at the end of the document, and is
-    /// laid there, at the indent of that break and flat or broken as it is. A probe does not count its width. A union
-    /// does, where the line ends in its first branch.
+    /// printed there, at the indent of that break and flat or broken as it is. A probe does not count its width. A
+    /// union does, where the line ends in its first branch.
     LineSuffix(T),
-    /// A document with its indent moved by so many columns, to the left where negative; it stays within 0 and
+    /// A document with its indent moved by this number of columns, to the left where negative; it stays within 0 and
     /// `usize::MAX`. A line takes the indent of the document after its break, not that of the break.
     Nest(isize, T),
     /// A document with indent 0.
     DedentToRoot(T),
     /// A document with its indent at the column where it starts.
     Align(T),
-    /// Nothing, but it keeps the groups around it from being flat.
+    /// An empty document that keeps the groups around it from being flat.
     ExpandParent,
-    /// A document that is laid flat whether it fits or not. A hard line or a payload shown in it fails; a weak line
-    /// still breaks.
+    /// A document that is flat whether it fits or not. A hard line or a payload shown in it fails; a weak line still
+    /// breaks.
     Flatten(T),
     /// The first document where lines are broken, and the second where they are flat.
     BreakOrFlat(T, T),
-    /// A document that is laid flat where it fits the line together with what follows up to the next line break, and else
+    /// A document that is flat if it fits the line together with what follows up to the next line break, and else
     /// broken.
     Group(T),
-    /// The first document where it can be laid and no text of it ends past the width, nor any line of a payload,
+    /// The first document if it can be printed and no text of it ends past the width, nor any line of a payload,
     /// whatever follows; else the second. Where lines are flat it is always the first.
     Union(T, T),
-    /// The first document where its first line fits, together with what follows if it has no line break; else the
-    /// second. What comes after that line is not read, and may fail. Where lines are flat it is always the
-    /// first.
+    /// The first document if its first line fits, together with what follows if it has no line break; else the second.
+    /// What comes after that line is not read, and may fail. Where lines are flat it is always the first.
     PartialUnion(T, T),
-    /// The first document where the test of the column at which it would start holds, else the second, flat or broken.
+    /// The first document if the test holds at the column where it would start, and else the second, in flat lines too.
     OnColumn(ColumnTest, T, T),
-    /// The first document where the test of the indent holds, else the second, flat or broken.
+    /// The first document if the test holds for the indent, and else the second, in flat lines too.
     OnNesting(NestingTest, T, T),
 }
 
@@ -79,17 +78,17 @@ pub trait DocPtr<'a>: Sized + Drop {
     // the tree of which the node is the root
     ghost tree: { Self → Tree };
 
-    /// The node that it points to.
+    /// The node to which the pointer points.
     fn doc(&self) -> &Doc<'a, Self>
         ensures { tree_of tree result.now ≡ tree self.now };
 }
 
-/// A document in the making: a node that was put in its place, or one that was not yet.
+/// A document in the making: a node that is allocated, or one that is not allocated yet.
 #[derive(Drop)]
 pub enum BuildDoc<'a, D> {
-    /// A node that has its place.
+    /// A node that is allocated.
     DocPtr(D),
-    /// A node that is not placed yet.
+    /// A node that is not allocated yet.
     Doc(Doc<'a, D>),
 }
 

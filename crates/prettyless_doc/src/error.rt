@@ -9,8 +9,7 @@ use std::alloc::{AllocError, AllocFailed};
 use std::error::Error;
 use std::fmt;
 
-/// Why a document was not built or not rendered: the error of a function that does both. `?` makes it of either error,
-/// and of a refusal of memory.
+/// The error of a function that builds a document and renders it. `?` makes it of either error, and of `AllocError`.
 #[derive(Debug, Drop)]
 pub enum PrettyError<E> {
     /// The document was not built.

@@ -8,7 +8,7 @@ use prettyless_sink::render::Render;
 use std::fmt;
 use std::snapshot::Snapshot;
 
-/// A sink that passes each piece on to a formatter that it is lent, whatever the formatter's options.
+/// A sink that passes each piece on to a borrowed formatter, whatever the formatter's options.
 #[derive(Drop)]
 pub struct FormatterSink<'f, W: fmt::Write> {
     formatter: &'f mut fmt::Formatter<W>,

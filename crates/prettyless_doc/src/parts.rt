@@ -53,7 +53,7 @@ pub enum Parts<'d, 'a, T> {
 }
 
 /// The node by what it holds: its kind, and the one or two documents in it, in order. Where it holds none, it answers a
-/// copy of the node. Only the copy of an owned text takes memory, and fails where that is refused.
+/// copy of the node. Only the copy of an owned text takes memory, and fails if memory runs out.
 pub fn parts_of<'d, 'a, T: DocPtr<'a>>(
     memory: Global,
     node: &'d Doc<'a, T>,

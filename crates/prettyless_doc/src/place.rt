@@ -6,17 +6,17 @@ use crate::doc::{Doc, DocPtr};
 use crate::text::BuildError;
 use std::alloc::Global;
 
-/// Where the nodes of documents are put. A place of one's own implements this trait alone.
+/// An allocator of the nodes of documents. One of your own implements this trait alone.
 pub trait DocPlace<'a>: Sized {
-    /// The pointer to a node here.
+    /// The pointer to a node of this allocator.
     type Doc: DocPtr<'a>;
 
-    /// Puts a node here: a pointer to the same tree, or an error where memory is refused.
+    /// Allocates a node: a pointer to the same tree, or an error if memory runs out.
     fn alloc(&'a self, doc: Doc<'a, Self::Doc>) -> Result<Self::Doc, BuildError>
         ensures ok { IfOk result (λ p. Self.Doc.tree p ≡ tree_of Self.Doc.tree doc.entry) }
         ensures err { IfErr result IsMemory };
 
-    /// A pointer of its own to the same tree, or an error where memory is refused.
+    /// A clone of a pointer, to the same tree, or an error if memory runs out.
     fn clone_ptr(&'a self, pointer: &Self::Doc) -> Result<Self::Doc, BuildError>
         ensures ok { IfOk result (λ p. Self.Doc.tree p ≡ Self.Doc.tree pointer.now) }
         ensures err { IfErr result IsMemory };
@@ -25,7 +25,7 @@ pub trait DocPlace<'a>: Sized {
     fn memory(&'a self) -> Global;
 }
 
-/// The same place. It is passed by reference.
+/// The same allocator, passed by reference.
 impl<'a, D: DocPlace<'a>> DocPlace<'a> for &'a D {
     type Doc = D::Doc;
 

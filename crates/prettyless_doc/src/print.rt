@@ -12,10 +12,11 @@ use std::alloc::Global;
 use std::fmt;
 use std::snapshot::Snapshot;
 
-/// A document that prints as its layout. What a formatter is asked for, as a width or an alignment, changes nothing.
+/// A document and options, whose `Display` writes the layout. What a formatter is asked for, as a width or an
+/// alignment, changes nothing.
 ///
-/// The layout is passed on to the formatter piece by piece, and not kept. It prints the whole layout or fails: where the
-/// document fails, memory is refused or the formatter fails. Then some of it may be printed.
+/// The layout is passed on to the formatter piece by piece, and not kept. It prints the whole layout or fails: where
+/// the document fails, memory runs out or the formatter fails. Then some of it may be printed.
 #[derive(Clone, Copy)]
 pub struct PrettyFmt<'a, 'd, T> {
     doc: &'d Doc<'a, T>,
@@ -24,7 +25,7 @@ pub struct PrettyFmt<'a, 'd, T> {
 }
 
 impl<'a, T: DocPtr<'a>> Doc<'a, T> {
-    /// The document, to be printed at this width, in columns.
+    /// A value whose `Display` writes the document's layout at this width, in columns.
     ///
     /// ```
     /// format!(in alloc; "{}", doc.print(alloc, 80))? // the layout
@@ -38,7 +39,7 @@ impl<'a, T: DocPtr<'a>> Doc<'a, T> {
         self.print_with(alloc, RenderOptions::new(width))
     }
 
-    /// The document, to be printed with these options.
+    /// A value whose `Display` writes the document's layout with these options.
     ///
     /// ```
     /// format!(in alloc; "{}", doc.print_with(alloc, RenderOptions::default()))? // the layout

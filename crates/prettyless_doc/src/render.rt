@@ -20,7 +20,7 @@ use std::alloc::Global;
 use std::{fmt, io};
 
 /// Renders. `Ok` says that exactly the bytes of the layout were appended. Where the document fails, exactly the bytes
-/// before its failing node were appended, and the error says that it fails. Where the sink fails or memory is refused, a
+/// before its failing node were appended, and the error says that it fails. Where the sink fails or memory runs out, a
 /// beginning of the layout's bytes was appended. All of this holds where the bytes of the sink or of the writer are
 /// known; of others, as of one within `OpaqueWriter`, nothing is promised.
 ///
@@ -45,12 +45,13 @@ impl<'a, T: DocPtr<'a>> Doc<'a, T> {
         self.render_raw_observed_with(alloc, options, out, &mut RenderCost::default())
     }
 
-    /// Renders to a sink as `render_raw_with` does, and adds to `cost` how many nodes the printer and its probes visit, and
-    /// how many tables were refused memory, also where it fails. Take it to see what a render costs: it takes no more time
-    /// or memory than that render.
+    /// Renders to a sink as `render_raw_with` does, and adds to `cost` how many nodes are visited, and for how many
+    /// tables there was no memory, also where the render fails. Take it to see what a render costs: it takes no more
+    /// time or memory than that render.
     ///
-    /// The visits have the bounds of `render_raw_counted_with`, but that of two visits a node. Those of probes are exactly what all
-    /// probes of the render read, up to the greatest `u64`; where memory was refused in one, no more than it reads.
+    /// The visits have the bounds of `render_raw_counted_with`, but that of two visits a node. Those of probes are
+    /// exactly what all probes of the render read, up to the greatest `u64`; where memory ran out in one, no more than
+    /// it reads.
     ///
     /// ```
     /// let (options, mut cost) = (RenderOptions::new(80), RenderCost::default());
@@ -72,8 +73,8 @@ impl<'a, T: DocPtr<'a>> Doc<'a, T> {
         render::render(alloc, self, options, out, cost)
     }
 
-    /// Renders to a sink as `render_raw_with` does, and adds to `visits` how many nodes the printer and its probes visit,
-    /// also where it fails. Take it for few visits, and `render_raw_observed_with` to see what the other calls cost.
+    /// Renders to a sink as `render_raw_with` does, and adds to `visits` how many nodes are visited, also where the
+    /// render fails. Take it for few visits, and `render_raw_observed_with` to see what the other calls cost.
     ///
     /// A document of at most 1,048,576 nodes is first stored in a table, where a node counts in each place that it has.
     /// Over that a probe reads what has no choice by column or nesting in two visits. Most documents take two to four

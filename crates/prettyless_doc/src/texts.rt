@@ -26,9 +26,9 @@ impl<'a, T: DocPtr<'a>> Doc<'a, T> {
         Doc::TextWithLen(width, text)
     }
 
-    /// A text, written as it is: nothing if it is empty. It counts as its bytes if it is ASCII, and else as its display
-    /// width. A line end in it is not seen by the layout: `multiline_text` is for such texts. Only an owned
-    /// text takes memory, and fails where that is refused.
+    /// A text of one line, written unchanged: nothing if it is empty. It counts as its bytes if it is ASCII, and else
+    /// as its display width. A line end in it is not seen by the layout: `multiline_text` is for such texts. Only an
+    /// owned text takes memory, and fails if memory runs out.
     ///
     /// ```
     /// Doc::text(alloc, CowStr::Borrowed("你好"))? // "你好", four columns
@@ -45,10 +45,10 @@ impl<'a, T: DocPtr<'a>> Doc<'a, T> {
         Ok(Doc::counted(Text::from_cow(alloc, text)?))
     }
 
-    /// What `{}` shows of the value: an empty text where it shows nothing. It counts as its bytes if it is ASCII, and
+    /// The value as `{}` formats it: an empty text where that is nothing. It counts as its bytes if it is ASCII, and
     /// else as its display width.
     ///
-    /// Answers `Memory` where memory was refused, and `Display` where only the value's formatting failed. No clause says
+    /// Answers `Memory` where memory ran out, and `Display` where only the value's formatting failed. No clause says
     /// which of the two comes.
     ///
     /// ```
@@ -60,9 +60,9 @@ impl<'a, T: DocPtr<'a>> Doc<'a, T> {
         Ok(Doc::counted(Text::from_display(alloc, value)?))
     }
 
-    /// A text whose line ends, each LF or CR, are written as they are, with no indent after them. It keeps the groups
-    /// around it from being flat, and fails under `flatten`. Without one it is as `text` makes it. Only an owned
-    /// text takes memory, and fails where that is refused.
+    /// A text of several lines, written unchanged, with no indent after its line ends. Each LF and each CR ends a line.
+    /// It keeps the groups around it from being flat, and fails under `flatten`. Without a line end it is as `text`
+    /// makes it. Only an owned text takes memory, and fails if memory runs out.
     ///
     /// ```
     /// Doc::multiline_text(alloc, CowStr::Borrowed("a\nb"))? // "a\nb"

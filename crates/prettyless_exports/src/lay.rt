@@ -11,9 +11,9 @@ use std::alloc::Global;
 /// Puts a document's layout into an area of bytes from its start, as far as there is room, and makes it once.
 ///
 /// `written` is how many bytes the area was given, also where it has no room for them. On success that is the layout's
-/// length, and it is never more than `limit`. Where the document fails, these are the bytes before its failing node.
-/// Where memory is refused, they are a beginning of the layout. Where the layout is longer than `limit`, the answer is
-/// `Sink`, and they are its first `limit` bytes. Past them the area stays as it was.
+/// length, and it is never more than `limit`. Where the document fails, these are the bytes before its failing node. If
+/// memory runs out, they are a beginning of the layout. Where the layout is longer than `limit`, the answer is `Sink`,
+/// and they are its first `limit` bytes. Past them the area stays as it was.
 ///
 /// ```
 /// lay_into(doc, alloc, RenderOptions::new(80), 1000, &mut out, &mut written)?; // `out` begins with "a\nb", `written` is 3

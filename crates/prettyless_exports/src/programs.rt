@@ -43,7 +43,7 @@ fn laid<'a, T: DocPtr<'a>>(
     }
 }
 
-/// Lays out the document of a program, with its nodes in this place.
+/// Lays out the document of a program, with its nodes in this allocator.
 fn laid_in<'a, D: DocPlace<'a>>(
     place: &'a D,
     program: &'a [u8],

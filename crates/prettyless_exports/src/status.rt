@@ -10,7 +10,7 @@ use prettyless_program::Fault;
 pub enum Status {
     /// The area holds the layout, or a beginning of it.
     LaidOut(Put),
-    /// Memory was refused. Of the layout of a program, the area holds a beginning of `written` bytes, and of a text's none.
+    /// Memory ran out. Of the layout of a program, the area holds a beginning of `written` bytes, and of a text's none.
     Memory,
     /// The layout of a program's document fails. The area holds the bytes before the node that fails, as far as there is room:
     /// `written` of them.

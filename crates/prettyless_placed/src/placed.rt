@@ -20,12 +20,12 @@ use prettyless_doc::{BuildDoc, BuildError, DocPlace, DocPtr};
 use prettyless_model::choice::{ColumnTest, NestingTest};
 use std::fmt;
 
-/// The calls of every pointer to the nodes of a `D`. Each places what it makes, and fails where
-/// memory is refused.
+/// The calls of every pointer to a node of an allocator `D`. Each allocates what it makes, and fails if memory runs
+/// out.
 ///
 /// The examples are for a `BoxDoc`, where `place` is a `&BoxAllocator`. An `RcDoc` and a `RefDoc` have the same calls.
 pub trait PlacedDoc<'a, D: DocPlace<'a, Doc = Self>>: DocPtr<'a> {
-    /// Nothing.
+    /// The empty document.
     ///
     /// ```
     /// BoxDoc::nil(place)? // ""
@@ -33,7 +33,7 @@ pub trait PlacedDoc<'a, D: DocPlace<'a, Doc = Self>>: DocPtr<'a> {
     fn nil(place: &'a D) -> Result<Self, BuildError>
         ensures { Builds result Self.tree Nil };
 
-    /// A document that cannot be laid: a render that reaches it fails.
+    /// A document that cannot be printed: a render that reaches it fails.
     ///
     /// ```
     /// docs![place, "a", BoxDoc::fail(place)?]? // writes "a", then `RenderError::Document`
@@ -57,8 +57,8 @@ pub trait PlacedDoc<'a, D: DocPlace<'a, Doc = Self>>: DocPtr<'a> {
     fn hardline(place: &'a D) -> Result<Self, BuildError>
         ensures { Builds result Self.tree HardLine };
 
-    /// A line break, under `flatten` too. It keeps the groups around it from being flat. It is nothing on a fresh line
-    /// where no suffix is pending.
+    /// A line break, left out on a fresh line where no suffix is pending. It breaks under `flatten` too, and keeps the
+    /// groups around it from being flat.
     ///
     /// ```
     /// docs![place, "a", BoxDoc::weak_line(place)?, BoxDoc::weak_line(place)?, "b"]? // "a\nb"
@@ -66,7 +66,7 @@ pub trait PlacedDoc<'a, D: DocPlace<'a, Doc = Self>>: DocPtr<'a> {
     fn weak_line(place: &'a D) -> Result<Self, BuildError>
         ensures { Builds result Self.tree WeakLine };
 
-    /// The text of one space.
+    /// A text of one space.
     ///
     /// ```
     /// docs![place, "a", BoxDoc::space(place)?, "b"]? // "a b"
@@ -74,7 +74,7 @@ pub trait PlacedDoc<'a, D: DocPlace<'a, Doc = Self>>: DocPtr<'a> {
     fn space(place: &'a D) -> Result<Self, BuildError>
         ensures { Builds result Self.tree lines.space };
 
-    /// A space; nothing at the start of a line, and nothing at its end unless a suffix is pending there.
+    /// A space, left out at the start of a line, and at the end of a line unless a suffix is pending there.
     ///
     /// ```
     /// docs![place, "a", BoxDoc::weak_space(place)?, BoxDoc::hard_line(place)?, "b"]? // "a\nb"
@@ -82,7 +82,7 @@ pub trait PlacedDoc<'a, D: DocPlace<'a, Doc = Self>>: DocPtr<'a> {
     fn weak_space(place: &'a D) -> Result<Self, BuildError>
         ensures { Builds result Self.tree WeakSpace };
 
-    /// Nothing, but it keeps the groups around it from being flat.
+    /// An empty document that keeps the groups around it from being flat.
     ///
     /// ```
     /// docs![place, "a", BoxDoc::line(place)?, BoxDoc::expand_parent(place)?, "b"]?.group()? // "a\nb"
@@ -122,8 +122,8 @@ pub trait PlacedDoc<'a, D: DocPlace<'a, Doc = Self>>: DocPtr<'a> {
     fn softline_(place: &'a D) -> Result<Self, BuildError>
         ensures { Builds result Self.tree to.softline_ };
 
-    /// A text, written as it is: nothing if it is empty. It counts as its bytes if it is ASCII, and else as its display
-    /// width. A line end in it is not seen by the layout: `multiline_text` is for such texts.
+    /// A text of one line, written unchanged: nothing if it is empty. It counts as its bytes if it is ASCII, and else
+    /// as its display width. A line end in it is not seen by the layout: `multiline_text` is for such texts.
     ///
     /// ```
     /// BoxDoc::text(place, CowStr::Borrowed("你好"))? // "你好", four columns
@@ -131,7 +131,7 @@ pub trait PlacedDoc<'a, D: DocPlace<'a, Doc = Self>>: DocPtr<'a> {
     fn text(place: &'a D, text: CowStr<'a>) -> Result<Self, BuildError>
         ensures { Builds result Self.tree (counted.text (cow_str_bytes text.entry)) };
 
-    /// A text that counts as so many columns. An empty one is a text too, and counts as none.
+    /// A text that counts as `width` columns. An empty one is a text too, and counts as none.
     ///
     /// ```
     /// BoxDoc::text_with_width(place, CowStr::Borrowed("<b>bold"), 4)? // "<b>bold", four columns
@@ -139,11 +139,10 @@ pub trait PlacedDoc<'a, D: DocPlace<'a, Doc = Self>>: DocPtr<'a> {
     fn text_with_width(place: &'a D, text: CowStr<'a>, width: usize) -> Result<Self, BuildError>
         ensures { Builds result Self.tree (TextWithLen width (cow_str_bytes text.entry)) };
 
-    /// What `{}` shows of the value: an empty text where it shows nothing. It counts as its bytes if it is ASCII, and
+    /// The value as `{}` formats it: an empty text where that is nothing. It counts as its bytes if it is ASCII, and
     /// else as its display width.
     ///
-    /// Answers `Memory` where memory was refused, and `Display` where only the value's
-    /// formatting failed.
+    /// Answers `Memory` where memory ran out, and `Display` where only the value's formatting failed.
     ///
     /// ```
     /// BoxDoc::as_string(place, 42)? // "42"
@@ -151,8 +150,9 @@ pub trait PlacedDoc<'a, D: DocPlace<'a, Doc = Self>>: DocPtr<'a> {
     fn as_string<V: fmt::Display + Drop>(place: &'a D, value: V) -> Result<Self, BuildError>
         ensures ok { IfOk result (λ p. counted.IsStringOf (V.output value) (Self.tree p)) };
 
-    /// A text whose line ends, each LF or CR, are written as they are, with no indent after them. It keeps the groups
-    /// around it from being flat, and fails under `flatten`. Without one it is as `text` makes it.
+    /// A text of several lines, written unchanged, with no indent after its line ends. Each LF and each CR ends a line.
+    /// It keeps the groups around it from being flat, and fails under `flatten`. Without a line end it is as `text`
+    /// makes it.
     ///
     /// ```
     /// BoxDoc::multiline_text(place, CowStr::Borrowed("a\nb"))?.nest(place, 2)? // "a\nb"
@@ -160,7 +160,7 @@ pub trait PlacedDoc<'a, D: DocPlace<'a, Doc = Self>>: DocPtr<'a> {
     fn multiline_text(place: &'a D, text: CowStr<'a>) -> Result<Self, BuildError>
         ensures { Builds result Self.tree (counted.multiline_text (cow_str_bytes text.entry)) };
 
-    /// This document, laid flat where it fits the line with what follows up to the next line break, and else broken.
+    /// This document, flat if it fits the line together with what follows up to the next line break, and else broken.
     /// Where it is nothing, a text or a group, it stays as it is, which takes no memory.
     ///
     /// ```
@@ -171,8 +171,8 @@ pub trait PlacedDoc<'a, D: DocPlace<'a, Doc = Self>>: DocPtr<'a> {
             (to.group (Self.tree self))
             (to.keeps_grouped (Self.tree self)) self };
 
-    /// This document with its indent moved by so many columns. By 0, or where it is nothing, it stays
-    /// as it is, which takes no memory.
+    /// This document with its indent moved by `offset` columns. By 0, or where it is nothing, it stays as it is, which
+    /// takes no memory.
     ///
     /// ```
     /// docs![place, "a", hard_line(), "b"]?.into_doc()?.nest(place, 2)? // "a\n  b"
@@ -182,7 +182,7 @@ pub trait PlacedDoc<'a, D: DocPlace<'a, Doc = Self>>: DocPtr<'a> {
             (to.nest offset (Self.tree self))
             (to.keeps_nested offset (Self.tree self)) self };
 
-    /// This document where it can be laid with each text within the width, and else `that`; where lines are flat, this
+    /// This document if it can be printed with each text within the width, and else `that`; where lines are flat, this
     /// one.
     ///
     /// ```
@@ -284,8 +284,7 @@ impl<'a, D: DocPlace<'a, Doc = T>, T: DocPtr<'a>> PlacedDoc<'a, D> for T {
     }
 }
 
-/// The calls of a pointer that take a document of type `P`. The making of that one can fail, and
-/// memory may be refused.
+/// The calls of a pointer that take a document of type `P`. The making of that one can fail, and memory may run out.
 ///
 /// `P` is a parameter of the trait and not of its calls, as for `DocAllocatorOf`.
 pub trait PlacedDocOf<'a, D: DocPlace<'a, Doc = Self>, P: Pretty<'a, D>>: DocPtr<'a> {
@@ -326,14 +325,14 @@ impl<'a, D: DocPlace<'a, Doc = T>, P: Pretty<'a, D>, T: DocPtr<'a>> PlacedDocOf<
 }
 
 /// The calls of a pointer that take a document of type `P` and one of type `Q`. The making of each can fail, and memory
-/// may be refused.
+/// may run out.
 pub trait PlacedDocOfTwo<
     'a,
     D: DocPlace<'a, Doc = Self>,
     P: Pretty<'a, D>,
     Q: Pretty<'a, D>,
 >: DocPtr<'a> {
-    /// The first document where the test of the column at which it would start holds, else the second, flat or broken.
+    /// The first document if the test holds at the column where it would start, and else the second, in flat lines too.
     ///
     /// ```
     /// docs![place, "ab", BoxDoc::if_column(place, ColumnTest::AtMost(1), "c", "d")?]? // "abd"
@@ -342,7 +341,7 @@ pub trait PlacedDocOfTwo<
         ensures { BuildsOfTwo result Self.tree (P.becomes first) (Q.becomes second)
             (P.refuses first) (Q.refuses second) (OnColumn test) };
 
-    /// The first document where the test of the indent holds, else the second, flat or broken.
+    /// The first document if the test holds for the indent, and else the second, in flat lines too.
     ///
     /// ```
     /// BoxDoc::if_nesting(place, NestingTest::AtLeast(2), "c", "d")?.nest(place, 2)? // "c"
@@ -368,12 +367,12 @@ impl<
     }
 }
 
-/// The calls of a pointer that take an iterator `I`. The making of an item can fail, and memory may be refused.
+/// The calls of a pointer that take an iterator `I`. The making of an item can fail, and memory may run out.
 pub trait PlacedDocOver<'a, D: DocPlace<'a, Doc = Self>, I: IntoIterator>: DocPtr<'a>
 where
     I::Item: Pretty<'a, D>,
 {
-    /// The items' documents, appended in order: nothing if there is none.
+    /// The documents of the items, appended in order: nothing if there is no item.
     ///
     /// `docs` has to be an iterator whose `next` may be called, and one that ends: the prover asks for both.
     ///
@@ -398,8 +397,8 @@ where
     }
 }
 
-/// The calls of a pointer that take an iterator `I` and a separator `S`. The making of an item or of
-/// the separator can fail, and memory may be refused.
+/// The calls of a pointer that take an iterator `I` and a separator `S`. The making of an item or of the separator can
+/// fail, and memory may run out.
 pub trait PlacedDocBetween<
     'a,
     D: DocPlace<'a, Doc = Self>,
@@ -409,8 +408,8 @@ pub trait PlacedDocBetween<
 where
     I::Item: Pretty<'a, D>,
 {
-    /// The items' documents in order, with the separator in each gap: nothing if there is none. The
-    /// separator becomes a document once, and only where there is a gap.
+    /// The documents of the items in order, with the separator between each two: nothing if there is no item. The
+    /// separator becomes a document once, and only if there are two items.
     ///
     /// `docs` has to be an iterator whose `next` may be called, and one that ends: the prover asks for both.
     ///

@@ -45,7 +45,7 @@ impl<'a> fmt::Debug for RefDoc<'a> {
     }
 }
 
-/// Itself, as a node that is placed.
+/// Itself, as a node that is allocated.
 impl<'a> From<RefDoc<'a>> for BuildDoc<'a, RefDoc<'a>> {
     ghost from_gives = { λ p b. b ≡ Placed p };
 
@@ -71,7 +71,7 @@ pub trait IntoRef<'a> {
     // the tree of the document that it is
     ghost tree: { Self → Tree };
 
-    /// A pointer to the document, or an error where memory is refused.
+    /// A pointer to the document, or an error if memory runs out.
     ///
     /// ```
     /// arena.pretty("a")?.into_ref()? // a pointer to "a"
@@ -84,8 +84,8 @@ pub trait IntoRef<'a> {
 impl<'a> IntoRef<'a> for DocBuilder<'a, Arena<'a>> {
     ghost tree = { λ b. built ref_tree b.1 };
 
-    /// A pointer to the document: its own where it has one, which takes no memory, and else that of a new node, or an
-    /// error where memory is refused.
+    /// A pointer to the document, whose node is allocated if that is not done yet. Only that takes memory, and fails if
+    /// memory runs out.
     fn into_ref(self) -> Result<RefDoc<'a>, BuildError>
         ensures ok { IfOk result (λ p. ref_tree p ≡ built ref_tree self.entry.1) }
         ensures placed { IfPlaced self.entry.1 (λ p. result ≡ Ok p) }
@@ -95,8 +95,8 @@ impl<'a> IntoRef<'a> for DocBuilder<'a, Arena<'a>> {
     }
 }
 
-/// Puts nodes into a `Bump`, which its caller keeps, and the frequent ones that hold others into one of its own. Each
-/// gives them up all at once. Dropping an arena walks no document.
+/// An allocator that puts nodes into the caller's `Bump`, and the frequent nodes that hold others into one of its own.
+/// Each of the two frees its nodes all at once. Dropping an arena walks no document.
 #[derive(Drop)]
 pub struct Arena<'a> {
     memory: Global,
@@ -111,14 +111,14 @@ pub struct Arena<'a> {
 }
 
 impl<'a> Arena<'a> {
-    /// Nodes, and the owned texts in them, will be in `bump`, but appends, nests, groups and unions in chunks from `alloc`.
-    /// A text is first made in memory from `alloc`.
+    /// An arena whose nodes, and the owned texts in them, will be in `bump`, but appends, nests, groups and unions in
+    /// chunks from `alloc`. A text is first made in memory from `alloc`.
     ///
     /// It does not fail. Where memory for its constants is refused, each is placed anew when it is asked for, and `len`
     /// then counts it.
     ///
     /// ```
-    /// Arena::new(alloc, &bump) // a place of nodes, in `bump`
+    /// Arena::new(alloc, &bump) // an allocator of nodes, in `bump`
     /// ```
     pub fn new(alloc: Global, bump: &'a Bump) -> Self {
         Arena {
@@ -130,12 +130,12 @@ impl<'a> Arena<'a> {
         }
     }
 
-    /// How many nodes this arena has placed.
+    /// How many nodes this arena has allocated.
     pub fn len(&self) -> usize {
         self.placed.get()
     }
 
-    /// Whether it has placed none.
+    /// Whether this arena has allocated no node.
     pub fn is_empty(&self) -> bool {
         self.len() == 0
     }

@@ -11,7 +11,7 @@ use prettyless_doc::{BuildDoc, BuildError, Doc, DocPlace, DocPtr};
 use std::alloc::Global;
 use std::{fmt, mem};
 
-/// A pointer that owns its node, in a box of its own.
+/// A pointer that owns its node, in a `Box`.
 #[cycle(box_doc)]
 pub struct BoxDoc<'a>(Box<BoxNode<'a>>);
 
@@ -38,7 +38,7 @@ impl<'a> Drop for BoxNode<'a> {
 }
 
 impl<'a> BoxDoc<'a> {
-    /// Boxes a node: the same tree, or an error where memory is refused, and the node is then given up.
+    /// Boxes a node: the same tree, or an error if memory runs out, and the node is then dropped.
     ///
     /// ```
     /// BoxDoc::new(alloc, Doc::HardLine)? // a pointer to "\n"
@@ -113,7 +113,7 @@ impl<'a> fmt::Debug for BoxDoc<'a> {
     }
 }
 
-/// Itself, as a node that is placed.
+/// Itself, as a node that is allocated.
 impl<'a> From<BoxDoc<'a>> for BuildDoc<'a, BoxDoc<'a>> {
     ghost from_gives = { λ p b. b ≡ Placed p };
 
@@ -122,17 +122,17 @@ impl<'a> From<BoxDoc<'a>> for BuildDoc<'a, BoxDoc<'a>> {
     }
 }
 
-/// Puts each node into a box of its own.
+/// An allocator that puts each node into a `Box`.
 #[derive(Clone, Copy)]
 pub struct BoxAllocator {
     memory: Global,
 }
 
 impl BoxAllocator {
-    /// Boxes and texts will take their memory from `alloc`.
+    /// An allocator whose boxes and texts will take their memory from `alloc`.
     ///
     /// ```
-    /// BoxAllocator::new(alloc) // a place of nodes, each in a box
+    /// BoxAllocator::new(alloc) // an allocator of nodes, each in a box
     /// ```
     pub fn new(alloc: Global) -> Self {
         BoxAllocator { memory: alloc }

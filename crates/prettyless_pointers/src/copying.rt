@@ -113,7 +113,7 @@ fn fill<'d, 'a>(
 }
 
 impl<'a> BoxDoc<'a> {
-    /// The same tree, in boxes of its own. Where memory is refused it fails, and gives up what it made.
+    /// The same tree, in boxes of its own. If memory runs out it fails, and drops what it made.
     pub fn clone(&self, alloc: Global) -> Result<Self, BuildError>
         ensures ok { IfOk result (λ p. box_tree p ≡ box_tree self.now) }
         ensures err { IfErr result IsMemory }

@@ -14,8 +14,8 @@ use std::alloc::Global;
 use std::fmt;
 use std::rc::Rc;
 
-/// A pointer that owns its node together with its clones. The last of them gives it up, and with it all that only it
-/// held, in a loop that takes the same stack at any depth.
+/// A pointer that shares its node with its clones. The last of them frees the node, and with it all that only it held,
+/// in a loop that takes the same stack at any depth.
 #[cycle(rc_doc)]
 pub struct RcDoc<'a>(Rc<RcNode<'a>>);
 
@@ -44,7 +44,7 @@ impl<'a> Drop for RcNode<'a> {
 }
 
 impl<'a> RcDoc<'a> {
-    /// Places a node: the same tree, or an error where memory is refused, and the node is then given up.
+    /// Puts a node into an `Rc`: the same tree, or an error if memory runs out, and the node is then dropped.
     ///
     /// ```
     /// RcDoc::new(alloc, Doc::HardLine)? // a pointer to "\n"
@@ -56,8 +56,8 @@ impl<'a> RcDoc<'a> {
         Ok(RcDoc(Rc::new(alloc, RcNode(doc))?))
     }
 
-    /// Another pointer to the same node. It places none, and answers `Memory` only where the node has as many owners as
-    /// can be counted.
+    /// Another pointer to the same node. It allocates none, and answers `Memory` only where the node has as many owners
+    /// as can be counted.
     pub fn clone(&self) -> Result<Self, BuildError>
         ensures ok { IfOk result (λ p. rc_tree p ≡ rc_tree self.now) }
         ensures err { IfErr result IsMemory }
@@ -135,7 +135,7 @@ impl<'a> fmt::Debug for RcDoc<'a> {
     }
 }
 
-/// Itself, as a node that is placed.
+/// Itself, as a node that is allocated.
 impl<'a> From<RcDoc<'a>> for BuildDoc<'a, RcDoc<'a>> {
     ghost from_gives = { λ p b. b ≡ Placed p };
 
@@ -144,17 +144,17 @@ impl<'a> From<RcDoc<'a>> for BuildDoc<'a, RcDoc<'a>> {
     }
 }
 
-/// Puts each node into an `Rc`.
+/// An allocator that puts each node into an `Rc`.
 #[derive(Clone, Copy)]
 pub struct RcAllocator {
     memory: Global,
 }
 
 impl RcAllocator {
-    /// Nodes and texts will take their memory from `alloc`.
+    /// An allocator whose nodes and texts will take their memory from `alloc`.
     ///
     /// ```
-    /// RcAllocator::new(alloc) // a place of nodes, each in an `Rc`
+    /// RcAllocator::new(alloc) // an allocator of nodes, each in an `Rc`
     /// ```
     pub fn new(alloc: Global) -> Self {
         RcAllocator { memory: alloc }

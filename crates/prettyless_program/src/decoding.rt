@@ -25,7 +25,7 @@ fn whole<'a, D: DocPlace<'a>>(
     Ok(gathered.document)
 }
 
-/// The document that the program writes. Its nodes are put in this place, and its texts are those of the program.
+/// The document that a program writes. Its nodes are allocated by `place`, and its texts are those of the program.
 ///
 /// A fault other than `Memory` comes only where the bytes write no document, and says why.
 ///

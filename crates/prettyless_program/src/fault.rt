@@ -4,10 +4,10 @@ ghost use Rattle.prettyless_program.specs.declared.fault.Fault.TheVariants.{Memo
 use prettyless_doc::BuildError;
 use std::alloc::{AllocError, AllocFailed};
 
-/// Why bytes were not read as a document.
+/// The error of bytes that were not read as a document.
 #[derive(Clone, Copy, Debug, PartialEq, Eq)]
 pub enum Fault {
-    /// Memory was refused. That says nothing of the bytes.
+    /// Memory ran out. That says nothing of the bytes.
     Memory,
     /// A byte begins no instruction.
     Instruction,

@@ -53,7 +53,7 @@ pub enum Instruction<'p> {
 }
 
 impl<'p> Instruction<'p> {
-    /// The one that moves the indent of the last document by so many columns.
+    /// The instruction that moves the indent of the last document by `offset` columns.
     #[inline(always)]
     pub fn nest(offset: isize) -> Self
         ensures { result ≡ Wrap (Indented (Nest offset)) }

@@ -100,7 +100,7 @@ fn made<'a, D: DocPlace<'a>>(
 
 /// Follows an instruction: takes the documents that it asks for, and puts what it makes of them in their place.
 ///
-/// A `Fault` says why it cannot be followed, or that memory was refused. Nothing is promised of the entries then.
+/// A `Fault` says why it cannot be followed, or that memory ran out. Nothing is promised of the entries then.
 #[inline(always)]
 #[tactic(auto, using(crate::proofs::Items::items_of_push))]
 pub fn follow<'a, D: DocPlace<'a>>(

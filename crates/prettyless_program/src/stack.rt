@@ -56,7 +56,7 @@ pub fn pop<'a, T: DocPtr<'a>>(entries: &mut Vec<Entry<T>>) -> Result<T, Fault>
 
 /// Takes the documents of the innermost open sequence, one after the other, and what opened it.
 ///
-/// `Fault::Memory` where memory is refused. Nothing is promised of the entries then.
+/// `Fault::Memory` if memory runs out. Nothing is promised of the entries then.
 pub fn gather<'a, D: DocPlace<'a>>(
     place: &'a D,
     entries: &mut Vec<Entry<D::Doc>>,

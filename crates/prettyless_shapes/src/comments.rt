@@ -12,8 +12,8 @@ use prettyless_alloc::DocAllocator;
 use prettyless_build::Pretty;
 use prettyless_doc::{BuildError, DocPlace};
 
-/// The document, a space, the comment and a line break, so that nothing comes after the comment on its line. It keeps the
-/// groups around it from being flat, and fails where memory is refused.
+/// The document, a space, the comment and a line break, so that nothing comes after the comment on its line. It keeps
+/// the groups around it from being flat, and fails if memory runs out.
 ///
 /// Where punctuation, as a comma, is to come before the comment, `with_late_comment` is for it.
 ///
@@ -35,7 +35,7 @@ pub fn with_comment<'a, D: DocPlace<'a>>(
 }
 
 /// The document, with a space and the comment put off to the end of the line. What else comes on this line is in front
-/// of them. It fails where memory is refused.
+/// of them. It fails if memory runs out.
 ///
 /// It breaks no line. Around it, `broken` keeps the groups that it is in from being flat.
 ///

@@ -26,7 +26,7 @@ pub(crate) fn followed<'a, D: DocPlace<'a>>(
     DocBuilder::from_doc(place, doc).join(next)?.into_doc()
 }
 
-/// The two documents side by side, with nothing between them. It fails where memory is refused.
+/// The two documents side by side, with nothing between them. It fails if memory runs out.
 ///
 /// ```
 /// joined(place, a, b)? // "ab"
@@ -43,7 +43,7 @@ pub fn joined<'a, D: DocPlace<'a>>(
     followed(place, first, DocBuilder::from_doc(place, next))
 }
 
-/// The two documents with one space between them, also where one of them is nothing. It fails where memory is refused.
+/// The two documents with one space between them, also where one of them is nothing. It fails if memory runs out.
 ///
 /// ```
 /// spaced(place, a, b)? // "a b"
@@ -61,8 +61,8 @@ pub fn spaced<'a, D: DocPlace<'a>>(
     joined(place, first, next)
 }
 
-/// The two documents with a line between them, also where one of them is nothing: a line break, or one space where lines
-/// are flat. It fails where memory is refused.
+/// The two documents with a line break between them, or one space where lines are flat. It is there also where one of
+/// them is nothing. It fails if memory runs out.
 ///
 /// ```
 /// grouped(place, lined(place, a, b)?)? // "a b" at 3 columns, "a\nb" at 2
@@ -81,7 +81,7 @@ pub fn lined<'a, D: DocPlace<'a>>(
 }
 
 /// The second document below the first: a line break is between them, also where one of them is nothing. It keeps the
-/// groups around it from being flat, and fails where memory is refused.
+/// groups around it from being flat, and fails if memory runs out.
 ///
 /// ```
 /// stacked(place, a, b)? // "a\nb"
@@ -98,8 +98,8 @@ pub fn stacked<'a, D: DocPlace<'a>>(
     joined(place, ended(place, first)?, next)
 }
 
-/// The documents, each below the one before: a line break is between two, also where one of them is nothing. Nothing, where
-/// there is no document. It keeps the groups around it from being flat, and fails where memory is refused.
+/// The documents, each below the one before: a line break is between each two, also where one of them is nothing.
+/// Nothing, where there is no document. It keeps the groups around it from being flat, and fails if memory runs out.
 ///
 /// ```
 /// stacked_all(place, docs)? // of "a" and "b": "a\nb"
@@ -116,8 +116,8 @@ pub fn stacked_all<'a, D: DocPlace<'a>>(
     place.separate(docs, gap)?.into_doc()
 }
 
-/// The document with a line break after it, also where it is nothing. It keeps the groups around it from being flat, and
-/// fails where memory is refused.
+/// The document with a line break after it, also where it is nothing. It keeps the groups around it from being flat,
+/// and fails if memory runs out.
 ///
 /// ```
 /// ended(place, a)? // "a\n"

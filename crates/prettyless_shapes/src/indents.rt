@@ -12,7 +12,7 @@ use prettyless_alloc::DocAllocator;
 use prettyless_build::DocBuilder;
 use prettyless_doc::{BuildError, DocPlace};
 
-/// The document with its lines but the first indented by so many columns. It fails where memory is refused.
+/// The document with each line but the first indented by `columns`. It fails if memory runs out.
 ///
 /// ```
 /// indented(place, stacked(place, a, b)?, 2)? // "a\n  b"
@@ -31,8 +31,8 @@ pub fn indented<'a, D: DocPlace<'a>>(
         .into_doc()
 }
 
-/// The document, laid flat where it fits the line with what follows up to the next line break, and else broken. It fails
-/// where memory is refused.
+/// The document, flat if it fits the line together with what follows up to the next line break, and else broken. It
+/// fails if memory runs out.
 ///
 /// ```
 /// grouped(place, lined(place, a, b)?)? // "a b" at 3 columns, "a\nb" at 2
@@ -45,7 +45,7 @@ pub fn grouped<'a, D: DocPlace<'a>>(place: &'a D, doc: D::Doc) -> Result<D::Doc,
     DocBuilder::from_doc(place, doc).group()?.into_doc()
 }
 
-/// The document, with the groups around it kept from being flat. It fails where memory is refused.
+/// The document, with the groups around it kept from being flat. It fails if memory runs out.
 ///
 /// ```
 /// grouped(place, broken(place, lined(place, a, b)?)?)? // "a\nb"
@@ -58,9 +58,9 @@ pub fn broken<'a, D: DocPlace<'a>>(place: &'a D, doc: D::Doc) -> Result<D::Doc, 
     followed(place, doc, place.expand_parent()?)
 }
 
-/// The first document and the second after it. Where the second, flat, fits the line, it follows a space, and else it
-/// is on the next line, indented by so many columns. The first is not in the group of the second, so it may be broken
-/// where the second follows on its last line. It fails where memory is refused.
+/// The first document, then the second after a space if it fits the line flat, and else on the next line, indented by
+/// `columns`. The first is not in the group of the second, so it may be broken where the second follows on its last
+/// line. It fails if memory runs out.
 ///
 /// ```
 /// hanging(place, a, b, 2)? // "a b" at 3 columns, "a\n  b" at 2
@@ -80,9 +80,8 @@ pub fn hanging<'a, D: DocPlace<'a>>(
     followed(place, first, next)
 }
 
-/// The second document below the first, indented by so many columns, and the third below that, at the indent of the first. A line
-/// break is between two, also where one of them is nothing. It keeps the groups around it from being flat, and fails where
-/// memory is refused.
+/// Three documents, each below the one before, the second indented by `columns`. A line break is between each two, also
+/// where one of them is nothing. It keeps the groups around it from being flat, and fails if memory runs out.
 ///
 /// ```
 /// block(place, text(place, "{")?, a, text(place, "}")?, 2)? // "{\n  a\n}"

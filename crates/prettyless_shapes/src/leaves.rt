@@ -10,8 +10,8 @@ use prettyless_alloc::DocAllocator;
 use prettyless_build::Pretty;
 use prettyless_doc::{BuildError, DocPlace};
 
-/// A text, written as it is: nothing if it is empty. A line end in it is not seen by the layout. It fails where memory is
-/// refused.
+/// A text of one line, written unchanged: nothing if it is empty. A line end in it is not seen by the layout. It fails
+/// if memory runs out.
 ///
 /// ```
 /// text(place, "a")? // "a"
@@ -24,7 +24,7 @@ pub fn text<'a, D: DocPlace<'a>>(place: &'a D, text: &'a str) -> Result<D::Doc, 
     Pretty::pretty(text, place)?.into_doc()
 }
 
-/// Nothing. It fails where memory is refused.
+/// The empty document. It fails if memory runs out.
 ///
 /// ```
 /// nil(place)? // ""

@@ -13,8 +13,8 @@ use prettyless_alloc::DocAllocator;
 use prettyless_build::{DocBuilder, Pretty};
 use prettyless_doc::{BuildError, DocPlace};
 
-/// How a list is laid out. Where it fits its line, it is flat, with the punctuation and a space between two documents. Else its
-/// lines are broken, after the first bracket and before the last one too.
+/// The style of a list. Where it fits its line, it is flat, with the punctuation and a space between two documents.
+/// Else its lines are broken, after the first bracket and before the last one too.
 #[derive(Clone, Copy, Debug, Drop, PartialEq, Eq)]
 pub struct ListStyle {
     /// By how many columns the documents are indented relative to the brackets, where lines are broken.
@@ -28,8 +28,8 @@ pub struct ListStyle {
 }
 
 impl ListStyle {
-    /// Documents indented by so many columns, each on a line of its own, with no punctuation after the last, where lines are
-    /// broken. Flat lists have no space inside the brackets.
+    /// A style by which broken lists have each document on a line of its own, indented by `indent`, with no punctuation
+    /// after the last. Flat lists have no space inside the brackets.
     ///
     /// ```
     /// let style = ListStyle { trailing: true, ..ListStyle::new(2) };
@@ -121,9 +121,9 @@ fn inside<'a, D: DocPlace<'a>>(
     nested.join(edge(place, style)?)
 }
 
-/// The documents between two brackets, each but the last with the punctuation after it. They are flat where they fit
-/// the line, and else as the style says. Where there is no document, the brackets stand side by side, with no break. It
-/// fails where memory is refused.
+/// The documents between two brackets, with the punctuation after each but the last. They are flat where they fit the
+/// line, and else as the style says. Where there is no document, the brackets stand side by side, with no break. It
+/// fails if memory runs out.
 ///
 /// ```
 /// list(place, "[", docs, ",", "]", ListStyle::new(2))? // of "a" and "b": "[a, b]" at 6 columns, "[\n  a,\n  b\n]" at 5

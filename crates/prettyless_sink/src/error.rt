@@ -3,7 +3,7 @@ use std::alloc::AllocError;
 use std::error::Error;
 use std::fmt;
 
-/// Why a render stopped. What is said of the sink's bytes holds where they are known.
+/// The error of a render. What is said of the sink's bytes holds where they are known.
 #[derive(Debug, Drop)]
 pub enum RenderError<E> {
     /// The document fails. The bytes before its failing node were appended to the sink's, exactly.
@@ -11,7 +11,7 @@ pub enum RenderError<E> {
     Document(E),
     /// The sink failed, with this error. A beginning of the layout's bytes was appended.
     Sink(E),
-    /// Memory was refused. A beginning of the layout's bytes was appended.
+    /// Memory ran out. A beginning of the layout's bytes was appended.
     Memory(AllocError),
 }
 

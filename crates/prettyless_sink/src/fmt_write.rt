@@ -5,7 +5,7 @@ use crate::render::Render;
 use crate::text_writer::TextWriter;
 use std::fmt;
 
-/// A sink over a text writer that it is lent, as `FmtWrite::new(&mut writer)`, with a count of its failures.
+/// A sink that writes to a borrowed text writer, as `FmtWrite::new(&mut writer)`, and counts its failures.
 #[derive(Drop)]
 pub struct FmtWrite<W> {
     upstream: W,
@@ -13,7 +13,7 @@ pub struct FmtWrite<W> {
 }
 
 impl<W> FmtWrite<W> {
-    /// A sink that appends to what `upstream` has. It has not failed.
+    /// A sink that appends to `upstream`, with no failures yet.
     ///
     /// ```
     /// doc.render_raw(alloc, 80, &mut FmtWrite::new(&mut text))?; // `text`, a `String`, grew by the layout

@@ -8,7 +8,7 @@ ghost use Rattle.prettyless_sink.specs.Sink.{AppendsProperBeginning};
 use crate::render::{Render, is_fair_count};
 use std::io;
 
-/// A sink over a byte writer that it is lent, as `IoWrite::new(&mut writer)`, with a count of its failures.
+/// A sink that writes to a borrowed byte writer, as `IoWrite::new(&mut writer)`, and counts its failures.
 #[derive(Drop)]
 pub struct IoWrite<W> {
     upstream: W,
@@ -16,7 +16,7 @@ pub struct IoWrite<W> {
 }
 
 impl<W> IoWrite<W> {
-    /// A sink that appends to what `upstream` has. It has not failed.
+    /// A sink that appends to `upstream`, with no failures yet.
     ///
     /// ```
     /// doc.render_raw(alloc, 80, &mut IoWrite::new(&mut bytes))?; // `bytes`, a `Vec<u8>`, grew by the layout

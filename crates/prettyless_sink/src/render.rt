@@ -3,12 +3,12 @@ ghost use Rattle.std.specs.Prelude.{◌≡◌, ◌⊎◌, ◌↔◌, IsTrue, ℕ
 ghost use Rattle.std.specs.Borrow.{GName};
 ghost use Rattle.prettyless_sink.specs.Sink.{Accepts, IsFairCount, Refuses, AcceptsCount};
 
-/// A sink: where the bytes of a layout go.
+/// A sink, to which a layout is written in pieces.
 ///
 /// A write appends what it answers and leaves the failures, or it appends a beginning of its text and the failures rise
 /// by one (at their greatest value they stay). That is promised where the sink's bytes are known.
 pub trait Render {
-    /// What the sink answers where it or the document fails.
+    /// The error of the sink, or of the document.
     type Error;
 
     // the bytes written so far, where they are known
@@ -26,7 +26,7 @@ pub trait Render {
     // the errors that `write_fault` may answer besides
     ghost fault_errors: { Self → Self.Error → Type 0 } = { λ _ _. ⊥ };
 
-    /// Writes a beginning of the text, and answers how many bytes that is.
+    /// Writes a beginning of the text, and answers its length in bytes.
     ///
     /// It fails by an error, and by a count that is 0 for a text that is not empty, past the text's end or inside a
     /// character. A beginning of the text is written then too.
@@ -68,7 +68,7 @@ pub trait Render {
     }
 }
 
-/// Whether so many bytes end between two characters of the text, and are some unless it is empty.
+/// Whether `count` bytes of the text end between two characters, and are more than 0 unless the text is empty.
 #[inline]
 pub fn is_fair_count(text: &str, count: usize) -> bool
     ensures { IsTrue result ↔ IsFairCount text.now count }

@@ -7,7 +7,8 @@ ghost use Rattle.prettyless_sink.specs.Sink.{AppendsKnownBeginning};
 use std::alloc::Allocator;
 use std::fmt;
 
-/// A text writer whose text may be known: a write appends its piece, and one that fails appends a beginning of it.
+/// A text writer whose contract says what a write appends: its piece, or a beginning of the piece where the write
+/// fails.
 ///
 /// `fmt::Write` says nothing of a write that fails, so a writer says it here, by an `impl` whose `write_text` is mostly
 /// its `write_str`. A `fmt::Write` without one is written to through `OpaqueWriter`.
@@ -24,7 +25,7 @@ pub trait TextWriter {
 impl<A: Allocator> TextWriter for String<A> {
     ghost text = { λ s. Some (string_bytes s) };
 
-    /// Appends a piece. Where memory for it is refused the text stays as it was.
+    /// Appends a piece. Where memory runs out the text stays as it was.
     #[inline]
     fn write_text(&mut self, piece: &str) -> fmt::Result
         ensures ok { OnOk result (Appends (Some (string_bytes self.old)) (Some (string_bytes self.new)) piece.now) }
@@ -55,7 +56,7 @@ impl<W: TextWriter> TextWriter for &mut W {
     }
 }
 
-/// Any `fmt::Write`, as a text writer whose text is not known.
+/// A text writer over any `fmt::Write`, of whose text nothing is known.
 #[derive(Drop)]
 pub struct OpaqueWriter<W>(pub W);
 

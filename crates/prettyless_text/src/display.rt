@@ -120,10 +120,10 @@ fn print<V: fmt::Display + Drop>(printer: &mut DisplayWriter, value: V) -> fmt::
 }
 
 impl<'a> Text<'a> {
-    /// What `{}` shows of the value: in the node itself if that has at most 22 bytes, and else owned.
+    /// The value as `{}` formats it: in the node itself up to 22 bytes, and else owned.
     ///
-    /// Answers `Memory` where memory was refused, also if the value went on, and `Display` where the value's formatting
-    /// failed and no memory was refused. No clause says which of the two comes.
+    /// Answers `Memory` where memory ran out, also if the value went on, and `Display` where the value's formatting
+    /// failed and no memory ran out. No clause says which of the two comes.
     ///
     /// ```
     /// Text::from_display(alloc, 42)? // its `as_str` is "42"

@@ -34,8 +34,8 @@ impl<'a> MultilineTextData<'a> {
     ghost use Rattle.prettyless_text.specs.BuildErrors.{IsMemory};
     ghost use Rattle.prettyless_text.specs.Payload.{payload_bytes, is_owned_payload, IfBorrowed};
 
-    /// A payload of this source, which has to hold LF or CR. Only an owned source takes memory, and fails where that is
-    /// refused.
+    /// The payload of a text, which has to hold LF or CR. Only an owned source takes memory, and fails if memory runs
+    /// out.
     ///
     /// ```
     /// MultilineTextData::new(alloc, CowStr::Borrowed("a\nb"))? // its `as_str` is "a\nb"
@@ -97,7 +97,7 @@ impl<'a> MultilineTextData<'a> {
         matches!(self.source, Source::Owned(..))
     }
 
-    /// The payload of another text of the same bytes, which is not measured again.
+    /// The payload of `source`, a text of the same bytes, which is not measured again.
     pub fn over<'b>(&self, source: &'b str) -> MultilineTextData<'b>
         requires { source.now ≡ payload_bytes self.now }
         ensures bytes { payload_bytes result ≡ payload_bytes self.now }
@@ -108,7 +108,7 @@ impl<'a> MultilineTextData<'a> {
         }
     }
 
-    /// The same bytes. Only an owned source takes memory for them, and fails where none was had.
+    /// The same bytes. Only an owned source takes memory for them, and fails if memory runs out.
     pub fn clone(&self, alloc: Global) -> Result<Self, BuildError>
         ensures ok { IfOk result (λ p. payload_bytes p ≡ payload_bytes self.now) }
         ensures borrowed { IfBorrowed self.now (IsOk result) }

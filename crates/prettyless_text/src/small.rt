@@ -5,7 +5,7 @@ use arrayvec::ArrayString;
 use std::marker::Model;
 use std::{fmt, str};
 
-/// A text of at most 22 bytes, which are in the value itself. It takes 23 bytes of memory and may be at any address, so
+/// A text of at most 22 bytes, stored in the value itself. It takes 23 bytes of memory and may be at any address, so
 /// that a node is no larger for it.
 #[derive(Clone, Copy)]
 pub struct SmallText {

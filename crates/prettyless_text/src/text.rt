@@ -12,10 +12,10 @@ use std::boxed::BoxedStr;
 use std::error::Error;
 use std::fmt;
 
-/// Why a document was not built. What the call took is given up, and all else is as it was.
+/// The error of a call that builds a document. What the call took is dropped, and all else is as it was.
 #[derive(Debug, Drop)]
 pub enum BuildError {
-    /// Memory was refused.
+    /// Memory ran out.
     Memory(AllocError),
     /// The formatting of a value failed.
     Display,
@@ -62,7 +62,7 @@ pub enum Text<'a> {
 
 impl<'a> Text<'a> {
     /// The same bytes. A borrowed text stays borrowed, which takes no memory. An owned one keeps its buffer; it takes
-    /// memory for the pointer to it. Where that is refused, the text is given up, and nothing else changes.
+    /// memory for the pointer to it. If memory runs out, the text is dropped, and nothing else changes.
     ///
     /// ```
     /// Text::from_cow(alloc, CowStr::Borrowed("ab"))? // its `as_str` is "ab"
@@ -91,7 +91,7 @@ impl<'a> Text<'a> {
         }
     }
 
-    /// The same bytes. Only an owned text takes memory for them, and fails where that is refused.
+    /// The same bytes. Only an owned text takes memory for them, and fails if memory runs out.
     pub fn clone(&self, alloc: Global) -> Result<Self, BuildError>
         ensures ok { IfOk result (λ t. bytes_of_text t ≡ bytes_of_text self.now) }
         ensures same { IfUnowned self.now (result ≡ Ok self.now) }
