@@ -13,7 +13,7 @@ use Rattle.prettyless_model.specs.Tree.{Tree, size}
 use Rattle.prettyless_probe.specs.Stack.{nodes}
 use Rattle.prettyless_probe.specs.Sums.{HaveSummaries, TreesHaveSummaries}
 use Rattle.prettyless_step.specs.declared.printer.Printer.{Printer}
-use Rattle.prettyless_table.specs.Shift.{IsShifted}
+use Rattle.prettyless_shift.specs.Shift.{IsShifted}
 use Rattle.prettyless_printer.specs.declared.buffer.Buffer.{Buffer}
 use Rattle.prettyless_printer.specs.declared.run.Run.{Run}
 use Rattle.prettyless_printer.specs.Points.{Point, Seen, Standing, buffer_seen, point_of, seen_by, standing}

@@ -7,8 +7,7 @@ use Rattle.prettyless_model.specs.Tree.{Tree, size}
 use Rattle.prettyless_model.specs.Layout.{in_trial}
 use Rattle.prettyless_model.specs.declared.mode.Mode.TheVariants.{Break}
 use Rattle.prettyless_probe.specs.Stack.{make_task}
-use Rattle.prettyless_table.specs.Owners.{documents_left}
-use Rattle.prettyless_table.specs.Shift.{nodes_left}
+use Rattle.prettyless_shift.specs.Shift.{documents_left, nodes_left}
 use Rattle.prettyless_printer.specs.declared.trial.Mark.{Mark}
 use Rattle.prettyless_printer.specs.declared.trial.OpenTrial.{OpenTrial}
 use Rattle.prettyless_printer.specs.declared.run.Run.{Run}

@@ -16,12 +16,12 @@ use prettyless_model::mode::Mode;
 use prettyless_model::options::RenderOptions;
 use prettyless_probe::stack::Stack;
 use prettyless_probe::walk::Walk;
+use prettyless_shift::refusal::Refusals;
 use prettyless_sink::error::RenderError;
 use prettyless_sink::render::Render;
 use prettyless_sink::visits::{RenderCost, Visits};
 use prettyless_step::printer::Printer;
 use prettyless_step::queue::Queue;
-use prettyless_table::refusal::Refusals;
 use std::alloc::{AllocError, Global};
 
 // A run before a document, with the visits before it.

@@ -6,7 +6,7 @@ ghost use Rattle.prettyless_probe.specs.Stack.{nodes, trees};
 ghost use Rattle.prettyless_probe.specs.Sums.{IsSummed};
 ghost use Rattle.prettyless_table.specs.Cells.{CellsGrow, CellsAreSound};
 ghost use Rattle.prettyless_table.specs.Owners.{Stand, all_owners};
-ghost use Rattle.prettyless_table.specs.Shift.{AreNodes};
+ghost use Rattle.prettyless_shift.specs.Shift.{AreNodes};
 ghost use Rattle.prettyless_printer.specs.Points.{Point, point_of, seen_by, standing};
 ghost use Rattle.prettyless_printer.specs.Open.{all_held, run_documents, run_nodes, seconds};
 ghost use Rattle.prettyless_printer.specs.Renders.{EndsAnywhere};
@@ -23,10 +23,12 @@ use crate::run::Run;
 use crate::shift_policy::ShiftPolicy;
 use crate::trial::{OpenTrial, Trials};
 use prettyless_probe::walk::Walk;
+use prettyless_shift::refusal::{Refusals, ShiftRefused};
+use prettyless_shift::{count_left, placed_printer, store_all};
 use prettyless_sink::error::RenderError;
 use prettyless_sink::render::Render;
-use prettyless_table::refusal::{Refusals, TableRefused, push};
-use prettyless_table::{MOST_CELLS, Placed, Table, count, count_left, placed_printer, store_all};
+use prettyless_table::refusal::{TableRefused, push};
+use prettyless_table::{MOST_CELLS, Placed, Table, count};
 use std::alloc::Global;
 use std::mem::replace;
 
@@ -111,7 +113,7 @@ impl<N: Walk> Run<N> {
         &mut self,
         out: &mut W,
         room: u64,
-    ) -> Result<Option<Result<(), RenderError<W::Error>>>, TableRefused>
+    ) -> Result<Option<Result<(), RenderError<W::Error>>>, ShiftRefused>
         requires comes { (a : Point) × RunReaches a (station_of N.tree self.old (seen_by W.Render out.old)) }
         ensures ended { IfOk result (λ o. IfSome o (λ r. (a : Point) → RunReaches a (station_of N.tree self.old (seen_by W.Render out.old))
             → EndsOverTable (W.document_errors out.new) a (left_of N.tree self.old) (seen_by W.Render out.new) self.new.visits r)) }

@@ -6,6 +6,4 @@ pub mod Small
 pub mod Owners
 pub mod Standing
 pub mod Listing
-pub mod Rooms
-pub mod Shifting
 pub mod AtOnce

@@ -3,4 +3,3 @@ pub mod Sums
 pub mod Cells
 pub mod Stored
 pub mod Owners
-pub mod Shift

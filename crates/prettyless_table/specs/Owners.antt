@@ -1,9 +1,7 @@
 -- The nodes of documents that take cells, in the order in which they are listed, and where documents stand meanwhile.
 use Rattle.std.specs.Prelude.{ℕ, ◌-◌, Bool, true, false, if◌then◌else◌, List, [], ◌∷◌, ◌++◌, map, length, reverse, ⊤}
 use Rattle.prettyless_model.specs.Tree.{Tree, One, Two}
-use Rattle.prettyless_probe.specs.Stack.{Task, trees}
-use Rattle.prettyless_step.specs.Printing.{tasks_of}
-use Rattle.prettyless_step.specs.declared.printer.Printer.{Printer}
+use Rattle.prettyless_probe.specs.Stack.{Task}
 use Rattle.prettyless_table.specs.declared.cell.Cell.{Cell}
 use Rattle.prettyless_table.specs.Parts.{shares, small, takes}
 use Rattle.prettyless_table.specs.Cells.{In}
@@ -74,7 +72,3 @@ Stand cells ds places = StandAt cells (large ds) (reverse places)
 -- the trees of tasks
 abbrev pub task_trees : List Task → List Tree
 task_trees = map (λ t. t.tree)
-
--- the documents that a printer has left: those of its commands, the next one first, and those of its queue
-abbrev pub documents_left : {N : Type 0} → (N → Tree) → Printer N → List Tree
-documents_left f p = task_trees (tasks_of f p) ++ trees f p.queue.nodes.items

@@ -1,18 +1,16 @@
 //! How many nodes documents have, and which of them take cells: counted and listed before cells are made, so that none is made in vain.
-//! This file knows the parts of nodes and what a printer has left, and no table.
+//! This file knows the parts of nodes, and no table.
 ghost use Rattle.std.specs.Prelude.{◌≡◌, ◌+◌, ◌<◌, ◌≤◌, ◌++◌, List, IfOk, IfSome, OnOk, MatchOption, if◌then◌else◌, true};
 ghost use Rattle.std.specs.List.{sum_by};
 ghost use Rattle.prettyless_model.specs.Tree.{Tree, size};
 ghost use Rattle.prettyless_probe.specs.Stack.{nodes, stack_of, trees};
-ghost use Rattle.prettyless_table.specs.Owners.{all_owners, documents_left, owners_of, task_trees, waiting_owners, with_own};
+ghost use Rattle.prettyless_table.specs.Owners.{all_owners, owners_of, task_trees, waiting_owners, with_own};
 ghost use Rattle.prettyless_table.specs.Parts.{small, tiny};
-ghost use Rattle.prettyless_table.specs.Shift.{nodes_left};
 
 use crate::below::{Parts, is_small, parts_below, takes_cell};
 use crate::refusal::{TableRefused, push};
 use prettyless_probe::stack::Stack;
 use prettyless_probe::walk::Walk;
-use prettyless_step::printer::Printer;
 use std::alloc::Global;
 
 // How many nodes a tiny document has.
@@ -119,8 +117,11 @@ fn count_one<N: Walk>(
     Ok(Some(left))
 }
 
-// Counts the nodes of commands, as `count_one`.
-fn count_commands<N: Walk>(
+/// Counts the nodes of commands, and lists those that take cells after `owners`. `waiting` is room for a list, and what it has is dropped.
+/// The answer is how much of `room` is left, and `None` where there is none for all nodes.
+///
+/// It fails where memory is refused. Nothing is promised of `owners` then, nor at `None`.
+pub fn count_commands<N: Walk>(
     commands: &Stack<N>,
     room: usize,
     owners: &mut Vec<N>,
@@ -143,8 +144,8 @@ fn count_commands<N: Walk>(
     Ok(Some(left))
 }
 
-// Counts the nodes of documents, as `count_one`.
-fn count_roots<N: Walk>(
+/// Counts the nodes of documents, as `count_commands`.
+pub fn count_roots<N: Walk>(
     roots: &[N],
     room: usize,
     owners: &mut Vec<N>,
@@ -186,32 +187,6 @@ pub fn count<N: Walk>(
 {
     let mut waiting = Vec::new(alloc);
     let Some(left) = count_one(root, most, owners, &mut waiting)? else {
-        return Ok(None);
-    };
-    Ok(Some(most - left))
-}
-
-/// How many nodes a printer has left, in its commands and its queue; those that take cells are listed after `owners`.
-/// `None` is answered where there are more than `most`.
-///
-/// It fails where memory is refused. Nothing is promised of `owners` then, nor at `None`.
-pub fn count_left<N: Walk>(
-    alloc: Global,
-    printer: &Printer<N>,
-    owners: &mut Vec<N>,
-    most: usize,
-) -> Result<Option<usize>, TableRefused>
-    ensures counted { IfOk result (λ o. MatchOption o
-        (most < nodes_left N.tree printer.now)
-        (λ n. (n ≡ nodes_left N.tree printer.now) × (n ≤ most))) }
-    ensures listed { IfOk result (λ o. IfSome o (λ _. trees N.tree owners.new.items
-        ≡ trees N.tree owners.old.items ++ all_owners (documents_left N.tree printer.now))) }
-{
-    let mut waiting = Vec::new(alloc);
-    let Some(room) = count_commands(&printer.commands, most, owners, &mut waiting)? else {
-        return Ok(None);
-    };
-    let Some(left) = count_roots(printer.queue.all(), room, owners, &mut waiting)? else {
         return Ok(None);
     };
     Ok(Some(most - left))

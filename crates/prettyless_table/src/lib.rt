@@ -10,11 +10,9 @@ mod cell;
 mod counting;
 mod placed;
 pub mod refusal;
-mod shift;
 mod sums;
 mod table;
 
-pub use counting::{count, count_left};
+pub use counting::{count, count_commands, count_roots};
 pub use placed::Placed;
-pub use shift::{Places, placed_printer, store_all};
 pub use table::{MOST_CELLS, Table};

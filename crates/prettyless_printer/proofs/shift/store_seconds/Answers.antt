@@ -2,7 +2,7 @@ use Rattle.std.proofs.Common.{◌≡◌, ◌+◌, ◌<◌, ◌∷◌, ◌∙◌,
 use Rattle.std.proofs.lemmas.List.{drop_more}
 use Rattle.prettyless_table.specs.Owners.{Stand}
 use Rattle.prettyless_table.proofs.Trees.{grows_then}
-use Rattle.prettyless_table.proofs.Shifting.{node_more}
+use Rattle.prettyless_shift.proofs.Shifting.{node_more}
 use Rattle.prettyless_printer.specs.Open.{all_held, seconds}
 use Rattle.prettyless_printer.proofs.shift.store_seconds.Goals as goal
 

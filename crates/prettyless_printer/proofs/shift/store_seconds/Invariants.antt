@@ -1,7 +1,7 @@
 use Rattle.std.proofs.Common.{◌≡◌, ◌+◌, ◌-◌, ◌≤◌, drop, length}
 use Rattle.prettyless_table.specs.Cells.{CellsGrow}
 use Rattle.prettyless_table.specs.Owners.{Stand}
-use Rattle.prettyless_table.proofs.Shifting.{FirstNodes}
+use Rattle.prettyless_shift.proofs.Shifting.{FirstNodes}
 use Rattle.prettyless_printer.specs.Open.{all_held, seconds}
 use Rattle.prettyless_printer.proofs.shift.store_seconds.Given as goal
 

@@ -4,7 +4,8 @@ use Rattle.std.proofs.lemmas.List.{drop_more}
 use Rattle.std.proofs.lemmas.List.Sums.{sum_by-cons}
 use Rattle.prettyless_model.specs.Tree.{size}
 use Rattle.prettyless_probe.specs.Stack.{trees}
-use Rattle.prettyless_table.specs.Owners.{all_owners, documents_left}
+use Rattle.prettyless_table.specs.Owners.{all_owners}
+use Rattle.prettyless_shift.specs.Shift.{documents_left}
 use Rattle.prettyless_table.proofs.Listing.{all_owners-append, lists_next}
 use Rattle.prettyless_printer.specs.Open.{all_held, seconds}
 use Rattle.prettyless_printer.proofs.run.Run.count_all.Goals as goal

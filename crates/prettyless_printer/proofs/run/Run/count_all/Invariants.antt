@@ -2,8 +2,8 @@ use Rattle.std.proofs.Common.{◌≡◌, ◌+◌, ◌++◌, ◌-◌, ◌≤◌, 
 use Rattle.std.specs.List.{sum_by}
 use Rattle.prettyless_model.specs.Tree.{size}
 use Rattle.prettyless_probe.specs.Stack.{trees}
-use Rattle.prettyless_table.specs.Owners.{all_owners, documents_left}
-use Rattle.prettyless_table.specs.Shift.{nodes_left}
+use Rattle.prettyless_table.specs.Owners.{all_owners}
+use Rattle.prettyless_shift.specs.Shift.{documents_left, nodes_left}
 use Rattle.prettyless_printer.specs.Open.{all_held, seconds}
 use Rattle.prettyless_printer.proofs.run.Run.count_all.Given as goal
 

@@ -2,9 +2,10 @@ use Rattle.std.proofs.Common.{◌≡◌, ◌+◌, ◌++◌, ◌≤◌, ◌∙◌
 use Rattle.std.proofs.lemmas.List.{length-map}
 use Rattle.prettyless_model.specs.Tree.{Tree}
 use Rattle.prettyless_probe.specs.Stack.{trees}
-use Rattle.prettyless_table.specs.Owners.{all_owners, documents_left}
-use Rattle.prettyless_table.proofs.Rooms.{room_for}
-use Rattle.prettyless_table.proofs.Shifting.{stored_kept}
+use Rattle.prettyless_table.specs.Owners.{all_owners}
+use Rattle.prettyless_shift.specs.Shift.{documents_left}
+use Rattle.prettyless_shift.proofs.Rooms.{room_for}
+use Rattle.prettyless_shift.proofs.Shifting.{stored_kept}
 use Rattle.prettyless_printer.specs.declared.run.Run.{Run}
 use Rattle.prettyless_printer.specs.Points.{seen_by, standing}
 use Rattle.prettyless_printer.specs.Open.{held, held_of, run_documents, run_nodes, seconds}

@@ -3,8 +3,8 @@ use Rattle.std.proofs.lemmas.List.{drop_more}
 use Rattle.prettyless_probe.specs.Stack as step
 use Rattle.prettyless_table.specs.Owners.{Stand}
 use Rattle.prettyless_table.proofs.Trees.{grows_then}
-use Rattle.prettyless_table.proofs.Shifting.{node_more}
-use Rattle.prettyless_table.proofs.shift.store_nodes.Goals as goal
+use Rattle.prettyless_shift.proofs.Shifting.{node_more}
+use Rattle.prettyless_shift.proofs.shift.store_nodes.Goals as goal
 
 pub roots-preserved : goal.roots-preserved
 roots-preserved g c =

@@ -4,7 +4,7 @@ use Rattle.prettyless_step.specs.Printing.{tasks_of}
 use Rattle.prettyless_probe.specs.Stack.{trees}
 use Rattle.prettyless_table.specs.Owners.{all_owners, task_trees}
 use Rattle.prettyless_table.proofs.Listing.{all_owners-append}
-use Rattle.prettyless_table.proofs.counting.count_left.Goals as goal
+use Rattle.prettyless_shift.proofs.counting.count_left.Goals as goal
 
 pub returns-clause-listed : goal.returns-clause-listed
 returns-clause-listed g c =

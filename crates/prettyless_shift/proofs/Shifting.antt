@@ -9,11 +9,11 @@ use Rattle.prettyless_probe.specs.Stack as step
 use Rattle.prettyless_step.specs.Printing.{tasks_of}
 use Rattle.prettyless_probe.specs.declared.command.Command.{Command}
 use Rattle.prettyless_step.specs.declared.printer.Printer.{Printer}
-use Rattle.prettyless_table.specs.declared.shift.Places.{Places}
+use Rattle.prettyless_shift.specs.declared.shift.Places.{Places}
 use Rattle.prettyless_table.specs.declared.cell.Cell.{Cell}
 use Rattle.prettyless_table.specs.Cells.{IsRoot, tree_at, tree_or_nil, cell_trees, CellsGrow}
 use Rattle.prettyless_table.specs.Stored.{HasAt}
-use Rattle.prettyless_table.specs.Shift.{AreCommands, AreNodes, IsInTable}
+use Rattle.prettyless_shift.specs.Shift.{AreCommands, AreNodes, IsInTable}
 use Rattle.prettyless_table.proofs.Trees.{at_root, root_stays, tree_same}
 
 -- What is at these places is the first of all, and the later ones come after it.

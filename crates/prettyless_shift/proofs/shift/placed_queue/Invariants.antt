@@ -1,7 +1,7 @@
 use Rattle.std.proofs.Common.{◌≡◌, ◌-◌, ◌≤◌, take, length}
 use Rattle.prettyless_probe.specs.Stack.{trees}
 use Rattle.prettyless_table.specs.Cells.{tree_at}
-use Rattle.prettyless_table.proofs.shift.placed_queue.Given as goal
+use Rattle.prettyless_shift.proofs.shift.placed_queue.Given as goal
 
 abbrev pub invariant-places : goal.invariant-places
 invariant-places g l = record {

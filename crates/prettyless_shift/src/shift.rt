@@ -6,17 +6,17 @@ ghost use Rattle.prettyless_model.specs.Tree.{Tree};
 ghost use Rattle.prettyless_probe.specs.Stack.{stack_of, task, trees};
 ghost use Rattle.prettyless_probe.specs.Sums.{IsSummed};
 ghost use Rattle.prettyless_table.specs.Cells.{CellsGrow, IsRoot, CellsAreSound, tree_at};
-ghost use Rattle.prettyless_table.specs.Owners.{Stand, documents_left, task_trees};
-ghost use Rattle.prettyless_table.specs.Shift.{AreCommands, AreNodes, IsInTable, IsShifted};
+ghost use Rattle.prettyless_table.specs.Owners.{Stand, task_trees};
+ghost use Rattle.prettyless_shift.specs.Shift.{AreCommands, AreNodes, IsInTable, IsShifted, documents_left};
 
-use crate::placed::Placed;
-use crate::refusal::{TableRefused, push, refused};
-use crate::table::{MOST_CELLS, Table};
+use crate::refusal::{ShiftRefused, refused};
 use prettyless_probe::command::Command;
 use prettyless_probe::stack::Stack;
 use prettyless_probe::walk::Walk;
 use prettyless_step::printer::Printer;
 use prettyless_step::queue::Queue;
+use prettyless_table::refusal::{TableRefused, push};
+use prettyless_table::{MOST_CELLS, Placed, Table};
 use std::alloc::Global;
 
 /// Where all that a printer has left stands in a table: its commands, the next one first, and its queue, the oldest suffix first.
@@ -116,7 +116,7 @@ fn placed_commands<'t, N: Walk>(
     alloc: Global,
     table: &'t Table<N>,
     places: &[Command<u32>],
-) -> Result<Stack<Placed<'t, N>>, TableRefused>
+) -> Result<Stack<Placed<'t, N>>, ShiftRefused>
     requires sound { CellsAreSound N.tree table.now.cells.items }
     requires within { All (λ c. IsRoot table.now.cells.items c.node) places.now }
     ensures tasks { IfOk result (λ s. stack_of ⟦<Placed<'t, N> as Walk>⟧.tree s
@@ -142,7 +142,7 @@ fn placed_queue<'t, N: Walk>(
     table: &'t Table<N>,
     places: &[u32],
     queue: &Queue<N>,
-) -> Result<Queue<Placed<'t, N>>, TableRefused>
+) -> Result<Queue<Placed<'t, N>>, ShiftRefused>
     requires sound { CellsAreSound N.tree table.now.cells.items }
     requires nodes { AreNodes N.tree table.now.cells.items places.now (trees N.tree queue.now.nodes.items) }
     ensures nodes { IfOk result (λ q. trees ⟦<Placed<'t, N> as Walk>⟧.tree q.nodes.items ≡ trees N.tree queue.now.nodes.items) }
@@ -168,7 +168,7 @@ pub fn placed_printer<'t, N: Walk>(
     printer: &Printer<N>,
     table: &'t Table<N>,
     places: &Places,
-) -> Result<Printer<Placed<'t, N>>, TableRefused>
+) -> Result<Printer<Placed<'t, N>>, ShiftRefused>
     requires sound { CellsAreSound N.tree table.now.cells.items }
     requires stored { IsInTable N.tree table.now.cells.items printer.now places.now }
     ensures shifted { IfOk result (λ p. IsShifted N.tree ⟦<Placed<'t, N> as Walk>⟧.tree printer.now p) }

@@ -3,8 +3,8 @@ use Rattle.prettyless_model.specs.Tree.{Tree}
 use Rattle.prettyless_probe.specs.Stack.{trees}
 use Rattle.prettyless_table.specs.Cells.{CellsGrow}
 use Rattle.prettyless_table.specs.Owners.{Stand}
-use Rattle.prettyless_table.proofs.Shifting.{FirstNodes}
-use Rattle.prettyless_table.proofs.shift.store_nodes.Given as goal
+use Rattle.prettyless_shift.proofs.Shifting.{FirstNodes}
+use Rattle.prettyless_shift.proofs.shift.store_nodes.Given as goal
 
 abbrev pub invariant-roots : goal.invariant-roots
 invariant-roots g l = record {

@@ -3,8 +3,8 @@ use Rattle.prettyless_probe.specs.Stack.{task, unread}
 use Rattle.prettyless_probe.specs.declared.command.Command.{Command}
 use Rattle.prettyless_table.specs.Owners.{Stand, task_trees}
 use Rattle.prettyless_table.proofs.Trees.{grows_then}
-use Rattle.prettyless_table.proofs.Shifting.{command_more}
-use Rattle.prettyless_table.proofs.shift.store_commands.Goals as goal
+use Rattle.prettyless_shift.proofs.Shifting.{command_more}
+use Rattle.prettyless_shift.proofs.shift.store_commands.Goals as goal
 
 pub commands-preserved : goal.commands-preserved
 commands-preserved g c =

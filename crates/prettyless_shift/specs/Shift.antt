@@ -1,5 +1,5 @@
 -- The shift of a printer to a table: what it has left stands at places of the table.
-use Rattle.std.specs.Prelude.{◌≡◌, ℕ, ◌+◌, List, map, true}
+use Rattle.std.specs.Prelude.{◌≡◌, ℕ, ◌+◌, ◌++◌, List, map, true}
 use Rattle.std.specs.List.{All, sum_by}
 use Rattle.prettyless_model.specs.Tree.{Tree, size}
 use Rattle.prettyless_probe.specs.Stack.{Task, nodes, task, trees}
@@ -8,12 +8,17 @@ use Rattle.prettyless_probe.specs.Sums.{IsSummed}
 use Rattle.prettyless_probe.specs.declared.command.Command.{Command}
 use Rattle.prettyless_step.specs.declared.printer.Printer.{Printer}
 use Rattle.prettyless_table.specs.declared.cell.Cell.{Cell}
-use Rattle.prettyless_table.specs.declared.shift.Places.{Places}
+use Rattle.prettyless_shift.specs.declared.shift.Places.{Places}
 use Rattle.prettyless_table.specs.Cells.{IsRoot, tree_at}
+use Rattle.prettyless_table.specs.Owners.{task_trees}
 
 -- How many nodes all that a printer has left has: its commands and its whole queue.
 abbrev pub nodes_left : {N : Type 0} → (N → Tree) → Printer N → ℕ
 nodes_left f p = nodes (tasks_of f p) + sum_by (λ n. size (f n)) p.queue.nodes.items
+
+-- The documents that a printer has left: those of its commands, the next one first, and those of its queue.
+abbrev pub documents_left : {N : Type 0} → (N → Tree) → Printer N → List Tree
+documents_left f p = task_trees (tasks_of f p) ++ trees f p.queue.nodes.items
 
 -- The commands at places of a table are these tasks.
 pub record AreCommands {N : Type 0} (f : N → Tree) (cells : List (Cell N)) (commands : List (Command ℕ)) (ts : List Task) : Type 0 where

@@ -1,9 +1,9 @@
 use Rattle.std.proofs.Common.{List, subst}
 use Rattle.prettyless_step.specs.Printing.{tasks_of}
 use Rattle.prettyless_probe.specs.Stack.{trees}
-use Rattle.prettyless_table.specs.Shift.{AreNodes}
-use Rattle.prettyless_table.proofs.Shifting.{commands_kept}
-use Rattle.prettyless_table.proofs.shift.store_all.Goals as goal
+use Rattle.prettyless_shift.specs.Shift.{AreNodes}
+use Rattle.prettyless_shift.proofs.Shifting.{commands_kept}
+use Rattle.prettyless_shift.proofs.shift.store_all.Goals as goal
 
 pub returns-clause-stored : goal.returns-clause-stored
 returns-clause-stored g c =

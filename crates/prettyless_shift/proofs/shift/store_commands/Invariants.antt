@@ -3,8 +3,8 @@ use Rattle.prettyless_model.specs.Tree.{Tree}
 use Rattle.prettyless_probe.specs.Stack.{IsCursor, stack_of, unread}
 use Rattle.prettyless_table.specs.Cells.{CellsGrow}
 use Rattle.prettyless_table.specs.Owners.{Stand, task_trees}
-use Rattle.prettyless_table.proofs.Shifting.{FirstCommands}
-use Rattle.prettyless_table.proofs.shift.store_commands.Given as goal
+use Rattle.prettyless_shift.proofs.Shifting.{FirstCommands}
+use Rattle.prettyless_shift.proofs.shift.store_commands.Given as goal
 
 abbrev pub invariant-commands : goal.invariant-commands
 invariant-commands g l = record {

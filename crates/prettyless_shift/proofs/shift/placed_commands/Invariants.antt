@@ -2,7 +2,7 @@ use Rattle.std.proofs.Common.{◌≡◌, ◌≤◌, drop, length, map, true}
 use Rattle.prettyless_probe.specs.Stack.{stack_of, task}
 use Rattle.prettyless_probe.specs.Sums.{IsSummed}
 use Rattle.prettyless_table.specs.Cells.{tree_at}
-use Rattle.prettyless_table.proofs.shift.placed_commands.Given as goal
+use Rattle.prettyless_shift.proofs.shift.placed_commands.Given as goal
 
 abbrev pub invariant-places : goal.invariant-places
 invariant-places g l = record {

@@ -7,8 +7,8 @@ use Rattle.prettyless_model.specs.Tree.{Tree, size}
 use Rattle.prettyless_probe.specs.Stack.{Task, nodes, trees}
 use Rattle.prettyless_step.specs.Printing.{tasks_of}
 use Rattle.prettyless_step.specs.declared.printer.Printer.{Printer}
-use Rattle.prettyless_table.specs.Owners.{all_owners, documents_left, task_trees}
-use Rattle.prettyless_table.specs.Shift.{nodes_left}
+use Rattle.prettyless_table.specs.Owners.{all_owners, task_trees}
+use Rattle.prettyless_shift.specs.Shift.{documents_left, nodes_left}
 use Rattle.prettyless_table.proofs.Owners.{owners_fewer, sizes}
 
 sizes-append : (ds es : List Tree) → sizes (ds ++ es) ≡ sizes ds + sizes es
