@@ -5,7 +5,10 @@ use Rattle.prettyless_model.specs.Tree.{Tree}
 use Rattle.prettyless_model.specs.Look.{by_mode}
 use Rattle.prettyless_model.specs.declared.mode.Mode.{Mode}
 use Rattle.prettyless_model.specs.declared.mode.Mode.TheVariants.{Break, Flat}
-use Rattle.prettyless_probe.specs.Stack.{Task}
+use Rattle.prettyless_probe.specs.Stack.{Task, make_task}
+use Rattle.prettyless_probe.specs.Probing.{TextsAt}
+use Rattle.prettyless_probe.specs.declared.visit.ProbeStep.{ProbeStep}
+use Rattle.prettyless_probe.specs.declared.visit.ProbeStep.TheVariants.{Answer, Descend, Silent}
 use Rattle.prettyless_probe.specs.Texts.{IsTexts, IsTextsIf, ByMode}
 
 until : (m : Mode) (x y : Type 0) → x → y → ByMode m x y
@@ -23,12 +26,17 @@ pub texts_read : (d : Tree) (m : Mode) (read : Tree) (ts : List Task) → IsText
 texts_read d Break read ts own h = texts_known d ts h
 texts_read d Flat read ts own h = h own
 
--- a node that is met in Break
-pub texts_broken : (d : Tree) (m : Mode) (read : Tree) (ts us : List Task) → m ≡ Break
-    → ByMode m (IsTexts d) (IsTexts read → IsTextsIf d ts)
-    → IsTextsIf d us
-texts_broken d Break read ts us e h = texts_known d us h
-texts_broken d Flat read ts us e h = absurd (cc)
+-- a node that is met in Break: the document is its texts already
+pub texts_broken : (d : Tree) (m : Mode) (read : Tree) (ts : List Task) → m ≡ Break → ByMode m (IsTexts d) (IsTexts read → IsTextsIf d ts)
+    → IsTexts d
+texts_broken d Break read ts e h = h
+texts_broken d Flat read ts e h = absurd (cc)
+
+-- a document that is its texts is so at each result
+pub texts_at : {N : Type 0} (f : N → Tree) (d : Tree) (a : ProbeStep N) (ts : List Task) → IsTexts d → TextsAt f d a ts
+texts_at {N} f d (Answer b) ts h = λ _. h
+texts_at {N} f d (Descend i m n) ts h = texts_known d (make_task i m (f n) ∷ ts) h
+texts_at {N} f d Silent ts h = texts_known d ts h
 
 -- all that was met flat is still texts, since the node is met in Break
 pub texts_still : (r b : Bool) (m : Mode) → r ≡ by_mode m b false → IsTrue r → IsTrue b × (m ≡ Break)

@@ -4,8 +4,8 @@ use Rattle.prettyless_model.specs.Tree.{Tree, size}
 use Rattle.prettyless_probe.specs.Stack.{Task, nodes}
 use Rattle.prettyless_probe.specs.Probing.{Few, OneLeft, RisesBy, nodes_next}
 use Rattle.prettyless_probe.specs.Reads.{IsFew, RisesTo, reads_all, reads_below, reads_on}
-use Rattle.prettyless_probe.specs.declared.probe.ProbeLine.{ProbeLine}
-use Rattle.prettyless_probe.specs.declared.probe.ProbeStep.{ProbeStep}
+use Rattle.prettyless_probe.specs.declared.line.ProbeLine.{ProbeLine}
+use Rattle.prettyless_probe.specs.declared.visit.ProbeStep.{ProbeStep}
 use Rattle.prettyless_probe.specs.declared.stack.Below.{Below}
 
 -- What a probe of a document costs, which tasks follow: `exact` nodes are read of them. Nodes have summaries or not, as `has` says.

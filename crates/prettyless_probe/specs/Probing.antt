@@ -1,8 +1,7 @@
 -- The result of a probe at one node, and how many nodes a probe may visit.
-use Rattle.std.specs.Prelude.{◌≡◌, ℕ, ◌+◌, ◌*◌, ◌-◌, ◌^◌, ◌≤◌, min, max, Bool, true, false, IsTrue, List, [], ◌∷◌, length, Option}
-use Rattle.std.specs.Prelude.{Some, None}
+use Rattle.std.specs.Prelude.{◌≡◌, ℕ, ◌+◌, ◌*◌, ◌-◌, ◌^◌, ◌≤◌, min, max, Bool, true, false, IsTrue, List, [], ◌∷◌, length}
 use Rattle.prettyless_model.specs.Tree.{Tree, Group, PartialUnion, size}
-use Rattle.prettyless_model.specs.Look.{Look, Answers, GoesOn, by_mode}
+use Rattle.prettyless_model.specs.Look.{by_mode}
 use Rattle.prettyless_model.specs.declared.mode.Mode.{Mode}
 use Rattle.prettyless_model.specs.declared.column.Column.{Column}
 use Rattle.prettyless_probe.specs.Stack.{Task, make_task, tasks_fit}
@@ -12,20 +11,10 @@ use Rattle.prettyless_probe.specs.Texts.{IsTextsIf, tasks_waiting}
 use Rattle.prettyless_probe.specs.declared.stack.Stack.{Stack}
 use Rattle.prettyless_probe.specs.declared.probe.Fit.{Fit}
 use Rattle.prettyless_probe.specs.declared.probe.Fit.TheVariants.{Exceeds, Fits, FitsAsTexts}
-use Rattle.prettyless_probe.specs.declared.probe.FrameStep.{FrameStep}
-use Rattle.prettyless_probe.specs.declared.probe.FrameStep.TheVariants as frame_step
-use Rattle.prettyless_probe.specs.declared.probe.ProbeStep.{ProbeStep}
-use Rattle.prettyless_probe.specs.declared.probe.ProbeStep.TheVariants.{Answer, Descend, Silent}
-
--- an answer, or nothing that is read next
-abbrev pub read_of : {N : Type 0} → Option Bool → ProbeStep N
-read_of (Some b) = Answer b
-read_of None = Silent
-
--- an answer, or none, as a look
-abbrev pub look_by_answer : Option Bool → Column → Bool → Look
-look_by_answer (Some b) c p = Answers b
-look_by_answer None c p = GoesOn c p
+use Rattle.prettyless_probe.specs.declared.visit.FrameStep.{FrameStep}
+use Rattle.prettyless_probe.specs.declared.visit.FrameStep.TheVariants as frame_step
+use Rattle.prettyless_probe.specs.declared.visit.ProbeStep.{ProbeStep}
+use Rattle.prettyless_probe.specs.declared.visit.ProbeStep.TheVariants.{Answer, Descend, Silent}
 
 -- whether the line stays within the width: the answer, or what comes, from this column on, of the node that is read next, if there is
 -- one, and of the tasks after it

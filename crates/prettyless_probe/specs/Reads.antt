@@ -12,8 +12,8 @@ use Rattle.prettyless_model.specs.declared.mode.Mode.TheVariants.{Break, Flat}
 use Rattle.prettyless_summary.specs.Summary.{has_summary}
 use Rattle.prettyless_summary.specs.Known.{before_choice}
 use Rattle.prettyless_probe.specs.Stack.{Task, make_task, nodes}
-use Rattle.prettyless_probe.specs.declared.probe.ProbeStep.{ProbeStep}
-use Rattle.prettyless_probe.specs.declared.probe.ProbeStep.TheVariants.{Answer, Descend, Silent}
+use Rattle.prettyless_probe.specs.declared.visit.ProbeStep.{ProbeStep}
+use Rattle.prettyless_probe.specs.declared.visit.ProbeStep.TheVariants.{Answer, Descend, Silent}
 
 -- what is read after a look: nothing where it answers
 abbrev pub read_after : Look → (Column → Bool → ℕ) → ℕ

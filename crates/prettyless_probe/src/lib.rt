@@ -7,7 +7,9 @@
 
 pub mod choice;
 pub mod command;
+pub mod line;
 pub mod probe;
 pub mod stack;
 mod summed;
+mod visit;
 pub mod walk;

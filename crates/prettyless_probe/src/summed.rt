@@ -12,8 +12,9 @@ ghost use Rattle.prettyless_probe.specs.Stack.{IsCursor, Task, in_break, make_ta
 ghost use Rattle.prettyless_probe.specs.Sums.{AreSums, HaveSum};
 
 use crate::command::Command;
-use crate::probe::{ProbeLine, ProbeStep, probe_one};
+use crate::line::ProbeLine;
 use crate::stack::{Cursor, Stack};
+use crate::visit::{ProbeStep, probe_one};
 use crate::walk::Walk;
 use prettyless_model::count::one_more;
 use prettyless_model::mode::Mode;
