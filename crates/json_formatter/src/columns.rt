@@ -6,9 +6,8 @@ ghost use Rattle.json_formatter.specs.PieceTexts.{piece_text, IsPiece};
 
 use crate::ahead::Ahead;
 use crate::piece::Piece;
-use prettyless_text::measure::is_ascii;
+use prettyless_text::measure::{is_ascii, text_width};
 use std::simd::prelude::*;
-use unicode_width::UnicodeWidthStr;
 
 /// Whether four bytes from a place on are below 128. They are tested side by side.
 #[inline(always)]
@@ -48,16 +47,12 @@ fn is_short_ascii(bytes: &[u8]) -> bool
     true
 }
 
-/// The columns that a text takes: its bytes where each is below 128, and else its display width.
+/// The columns that a text takes.
 #[inline(never)]
 fn long_columns(text: &str) -> usize
     ensures { result ≡ text_width text.now }
 {
-    if is_ascii(text) {
-        text.len()
-    } else {
-        text.width()
-    }
+    text_width(text, is_ascii(text))
 }
 
 /// The same. Most texts have few bytes, all below 128.

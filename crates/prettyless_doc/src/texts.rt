@@ -7,11 +7,10 @@ ghost use Rattle.prettyless_doc.specs.BuildErrors.{IsMemory};
 ghost use Rattle.prettyless_doc.specs.TextBytes.{bytes_of_text, IfLent};
 
 use crate::doc::{Doc, DocPtr};
-use crate::measure::{holds_break, is_ascii};
+use crate::measure::{holds_break, is_ascii, text_width};
 use crate::text::{BuildError, CowStr, MultilineTextData, Text};
 use std::alloc::Global;
 use std::fmt;
-use unicode_width::UnicodeWidthStr;
 
 impl<'a, T: DocPtr<'a>> Doc<'a, T> {
     // A text that counts as its bytes if it is ASCII, and else as its display width.
@@ -22,7 +21,7 @@ impl<'a, T: DocPtr<'a>> Doc<'a, T> {
         if is_ascii(text.as_str()) {
             return Doc::Text(text);
         }
-        let width = text.as_str().width();
+        let width = text_width(text.as_str(), false);
         Doc::TextWithLen(width, text)
     }
 

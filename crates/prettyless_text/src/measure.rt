@@ -21,8 +21,14 @@ pub fn is_ascii(text: &str) -> bool
     all < 128
 }
 
-// The columns that a text takes, where it is known whether it is ASCII: its bytes, and else its display width.
-fn width_of(text: &str, ascii: bool) -> usize
+/// The columns that a text takes: its bytes if it is ASCII, and else its display width. Whether it is, the caller says by
+/// `ascii`, so that no text is looked through twice.
+///
+/// ```
+/// text_width("你好", false) // 4
+/// ```
+#[inline]
+pub fn text_width(text: &str, ascii: bool) -> usize
     requires { ascii ≡ spec.is_ascii text.now }
     ensures { result ≡ spec.text_width text.now }
 {
@@ -44,7 +50,7 @@ pub fn holds_break(text: &str) -> bool
 
 // What is measured of a part, which is what is between two breaks.
 #[derive(Clone, Copy)]
-struct Part {
+struct PartMetrics {
     width: usize,
     nonempty: bool,
 }
@@ -68,7 +74,7 @@ fn scan_part(text: &str) -> (usize, bool)
 }
 
 // The first part of a text, and what follows the break after it, if there is one.
-fn split_part(text: &str) -> (Part, Option<&str>)
+fn split_part(text: &str) -> (PartMetrics, Option<&str>)
     ensures width { result.0.width ≡ spec.text_width (spec.first_of_parts (spec.parts text.now)) }
     ensures nonempty { result.0.nonempty
         ≡ not (spec.is_empty (spec.first_of_parts (spec.parts text.now))) }
@@ -76,8 +82,8 @@ fn split_part(text: &str) -> (Part, Option<&str>)
     ensures shorter { IfSome result.1 (λ r. length r.now < length text.now) }
 {
     let (end, ascii) = scan_part(text);
-    let part = Part {
-        width: width_of(&text[..end], ascii),
+    let part = PartMetrics {
+        width: text_width(&text[..end], ascii),
         nonempty: end > 0,
     };
     if end < text.len() {

@@ -1,13 +1,11 @@
 //! Where the lexemes of a layout stand on their lines, and by how much comments are moved to be aligned.
 ghost use Rattle.std.specs.Prelude.{◌≡◌};
-ghost use Rattle.prettyless_model.specs.Metrics.{text_width};
 ghost use Rattle.toml_documents.specs.Alignment as spec;
 ghost use Rattle.toml_lexemes.specs.SpacedLexer.{spaced_of, IsNamedIf};
 
 use crate::breaks::has_lines;
-use prettyless_text::measure::is_ascii;
+use prettyless_text::measure::{is_ascii, text_width};
 use toml_lexemes::{Lexeme, Spaced, SpacedLexer};
-use unicode_width::UnicodeWidthStr;
 
 /// How far a line has come.
 #[derive(Clone, Copy)]
@@ -41,17 +39,6 @@ pub(crate) const START: Standing = Standing {
     most: None,
 };
 
-/// The columns that a text takes: its bytes where each is below 128, and else its display width.
-fn columns(text: &str) -> usize
-    ensures { result ≡ text_width text.now }
-{
-    if is_ascii(text) {
-        text.len()
-    } else {
-        text.width()
-    }
-}
-
 pub(crate) fn is_comment_lexeme(found: Spaced<'_>) -> bool
     requires { IsNamedIf found.lexeme }
     ensures { result ≡ spec.is_comment_lexeme (spaced_of found.entry) }
@@ -76,7 +63,7 @@ impl Reach {
             columns: self
                 .columns
                 .saturating_add(found.gap.len())
-                .saturating_add(columns(text)),
+                .saturating_add(text_width(text, is_ascii(text))),
             holds: !has_lines(text),
             ended: self.ended,
         }

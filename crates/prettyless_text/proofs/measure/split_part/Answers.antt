@@ -14,7 +14,7 @@ range_from-requires c =
 
 pub returns-then-end-text-clause-width : goal.returns-then-end-text-clause-width
 returns-then-end-text-clause-width c =
-    c.width_of.ensures ∙ ap text_width (c.range.ensures.value ∙ first-front _ _ c.scan_part-end.ensures.end)
+    c.text_width.ensures ∙ ap text_width (c.range.ensures.value ∙ first-front _ _ c.scan_part-end.ensures.end)
 
 pub returns-then-end-text-clause-nonempty : goal.returns-then-end-text-clause-nonempty
 returns-then-end-text-clause-nonempty c = first-nonempty _ _ c.scan_part-end.ensures.end
@@ -25,7 +25,7 @@ returns-then-end-text-clause-rest c =
 
 pub returns-else-end-text-clause-width : goal.returns-else-end-text-clause-width
 returns-else-end-text-clause-width c =
-    c.width_of.ensures ∙ ap text_width (c.range.ensures.value ∙ first-front _ _ c.scan_part-end.ensures.end)
+    c.text_width.ensures ∙ ap text_width (c.range.ensures.value ∙ first-front _ _ c.scan_part-end.ensures.end)
 
 pub returns-else-end-text-clause-nonempty : goal.returns-else-end-text-clause-nonempty
 returns-else-end-text-clause-nonempty c = first-nonempty _ _ c.scan_part-end.ensures.end
