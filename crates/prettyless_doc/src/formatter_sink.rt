@@ -3,7 +3,7 @@ ghost use Rattle.std.specs.Prelude.{◌≡◌, [], ⊤, Some};
 ghost use Rattle.prettyless_doc.specs.Streams.{Streams};
 
 use crate::fact::{Fact, holds};
-use crate::given::Given;
+use prettyless_sink::ghost_bytes::GhostBytes;
 use prettyless_sink::render::Render;
 use std::fmt;
 use std::snapshot::Snapshot;
@@ -14,7 +14,7 @@ pub struct FormatterSink<'f, W: fmt::Write> {
     formatter: &'f mut fmt::Formatter<W>,
     failures: u64,
     start: &'f Snapshot<fmt::Formatter<W>>,
-    given: Given,
+    given: GhostBytes,
     // As long as no write failed, the formatter took what the sink was given since the start. There merely is a proof of that,
     // since a ghost field is a fact with at most one proof, and a writer's own relation need be none.
     ghost streams: { ∥ (failures ≡ 0 → Streams W.Write.write_str_gives start.now.value given.bytes formatter.now) ∥₁ },
@@ -45,7 +45,7 @@ impl<'f, W: fmt::Write> FormatterSink<'f, W> {
             formatter,
             failures: 0,
             start,
-            given: Given::of(b""),
+            given: GhostBytes::of(b""),
         }
     }
 

@@ -12,7 +12,6 @@ pub mod doc;
 pub mod error;
 mod fact;
 mod formatter_sink;
-mod given;
 pub mod parts;
 pub mod place;
 pub mod print;

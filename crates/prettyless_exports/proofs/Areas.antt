@@ -13,13 +13,13 @@ use Rattle.prettyless_exports.proofs.Accounts.{account_grew}
 
 -- what an area has
 abbrev pub account_of : Area → List ℕ
-account_of area = account area.limit area.history.before area.history.given
+account_of area = account area.limit area.before.bytes area.given.bytes
 
 -- what of the bytes is within the limit was put
 puts_within : (area : Area) (limit : ℕ) (old bytes : List ℕ) → account_of area ≡ account limit old [] ++ bytes
     → Puts (take limit bytes) old area.out.now area.count
 puts_within area limit old bytes e =
-    let grew = account_grew limit area.limit old area.history.before [] area.history.given bytes e in
+    let grew = account_grew limit area.limit old area.before.bytes [] area.given.bytes bytes e in
     record {
       in_place = rw (grew.same_limit, grew.same_before, grew.grown) at area.holds;
       counted = (rw (grew.same_limit, grew.grown) at area.counts) ∙ sym (length-take limit bytes);
@@ -29,7 +29,7 @@ puts_within area limit old bytes e =
 pub puts_all : (area : Area) (limit : ℕ) (old bytes : List ℕ) → account_of area ≡ account limit old [] ++ bytes → area.failures ≡ 0
     → PutsAll limit bytes old area.out.now area.count
 puts_all area limit old bytes e never =
-    let grew = account_grew limit area.limit old area.history.before [] area.history.given bytes e in
+    let grew = account_grew limit area.limit old area.before.bytes [] area.given.bytes bytes e in
     let fits : length bytes ≤ limit = rw (grew.same_limit, grew.grown) at (area.within never) in
     record { puts = rw (take_all limit bytes fits) at (puts_within area limit old bytes e); within = fits }
 
@@ -37,7 +37,7 @@ puts_all area limit old bytes e never =
 past_limit : (area : Area) (limit : ℕ) (old bytes : List ℕ) → account_of area ≡ account limit old [] ++ bytes → 0 < area.failures
     → limit < length bytes
 past_limit area limit old bytes e failed =
-    let grew = account_grew limit area.limit old area.history.before [] area.history.given bytes e in
+    let grew = account_grew limit area.limit old area.before.bytes [] area.given.bytes bytes e in
     rw (grew.same_limit, grew.grown) at (area.past failed)
 
 -- an area that failed was given a beginning of the bytes that goes past the limit
@@ -66,17 +66,17 @@ put_beginning limit front back old new written PastLimit past is = (
 pub put_given : {A E : Type 0} (area : Area) (limit : ℕ) (old bytes : List ℕ) (written : ℕ) (put : Put) (r : Result A E)
     → OnOk r (Accepts (Some (account limit old [])) (Some (account_of area)) bytes 0 area.failures)
     → OnErr r (Refuses (Some (account limit old [])) (Some (account_of area)) bytes 0 area.failures)
-    → IsPut area.limit area.history.given area.history.before area.out.now written put
+    → IsPut area.limit area.given.bytes area.before.bytes area.out.now written put
     → IsPut limit bytes old area.out.now written put
 put_given area limit old bytes written put (Ok x) wrote failed is =
     let w = wrote refl in
-    let grew = account_grew limit area.limit old area.history.before [] area.history.given bytes w.1.0 in
+    let grew = account_grew limit area.limit old area.before.bytes [] area.given.bytes bytes w.1.0 in
     rw (grew.same_limit, grew.same_before, grew.grown) at is
 put_given area limit old bytes written put (Err x) wrote failed is =
     let f = failed refl in
     let front = f.1.0.0 in
     let back = f.1.0.1 in
-    let grew = account_grew limit area.limit old area.history.before [] area.history.given front f.1.0.3 in
+    let grew = account_grew limit area.limit old area.before.bytes [] area.given.bytes front f.1.0.3 in
     let past : limit < length front = past_limit area limit old front f.1.0.3 (omega (arith, f.1.1)) in
     subst (λ (x : List ℕ). IsPut limit x old area.out.now written put) (sym f.1.0.2)
     (put_beginning limit front back old area.out.now written put past (rw (grew.same_limit, grew.same_before, grew.grown) at is))

@@ -5,8 +5,8 @@ ghost use Rattle.prettyless_exports.specs.Overlay.{limit_of, overlay};
 ghost use Rattle.prettyless_exports.specs.Texts.{IsPut};
 ghost use Rattle.prettyless_exports.specs.declared.area.Full.TheVariants.{Document};
 
-use crate::history::History;
 use crate::text::Put;
+use prettyless_sink::ghost_bytes::GhostBytes;
 use prettyless_sink::render::Render;
 
 /// The greatest length in bytes that this limit allows: 0 is no limit, and gives that of all areas.
@@ -34,14 +34,15 @@ pub struct Area<'o> {
     count: usize,
     limit: usize,
     failures: u64,
-    history: History,
+    before: GhostBytes,
+    given: GhostBytes,
     // The area holds what it was given, as far as the limit, and past that what it held at first.
-    pub ghost holds: { out.now ≡ overlay (take limit history.given) history.before },
+    pub ghost holds: { out.now ≡ overlay (take limit given.bytes) before.bytes },
     // What it was given is counted as far as the limit.
-    pub ghost counts: { count ≡ min limit (length history.given) },
+    pub ghost counts: { count ≡ min limit (length given.bytes) },
     // It fails only where it is given more than the limit, and then always.
-    pub ghost past: { 0 < failures → limit < length history.given },
-    pub ghost within: { failures ≡ 0 → length history.given ≤ limit },
+    pub ghost past: { 0 < failures → limit < length given.bytes },
+    pub ghost within: { failures ≡ 0 → length given.bytes ≤ limit },
 }
 
 impl<'o> Area<'o> {
@@ -53,17 +54,18 @@ impl<'o> Area<'o> {
     pub fn new(out: &'o mut [u8], limit: usize) -> Self
         ensures same_reference { result.out.ghost_name ≡ out.entry.ghost_name }
         ensures limit { result.limit ≡ limit }
-        ensures before { result.history.before ≡ out.old }
-        ensures given { result.history.given ≡ [] }
+        ensures before { result.before.bytes ≡ out.old }
+        ensures given { result.given.bytes ≡ [] }
         ensures failures { result.failures ≡ 0 }
     {
-        let history = History::new(out);
+        let before = GhostBytes::of(out);
         Area {
             out,
             count: 0,
             limit,
             failures: 0,
-            history,
+            before,
+            given: GhostBytes::of(b""),
         }
     }
 
@@ -78,7 +80,7 @@ impl<'o> Area<'o> {
     /// How many bytes it has room for.
     #[inline]
     pub fn capacity(&self) -> usize
-        ensures { result ≡ length self.now.history.before }
+        ensures { result ≡ length self.now.before.bytes }
     {
         self.out.len()
     }
@@ -87,7 +89,7 @@ impl<'o> Area<'o> {
     ///
     /// `written` is how many bytes those are; after `Beginning` it is how many it was given.
     pub fn put(&self, written: &mut usize) -> Put
-        ensures { IsPut self.now.limit self.now.history.given self.now.history.before self.now.out.now written.new result }
+        ensures { IsPut self.now.limit self.now.given.bytes self.now.before.bytes self.now.out.now written.new result }
     {
         let capacity = self.out.len();
         *written = self.count.min(capacity);
@@ -107,7 +109,7 @@ impl<'o> Render for Area<'o> {
 
     // The account, and not only the bytes that it was given: what a sink has stays the beginning of what it has later. So
     // after a render the owner knows that the limit and what the area held at first are the same.
-    ghost bytes = { λ area. Some (account area.limit area.history.before area.history.given) };
+    ghost bytes = { λ area. Some (account area.limit area.before.bytes area.given.bytes) };
 
     ghost failures = { λ area. area.failures };
 
@@ -132,7 +134,7 @@ impl<'o> Render for Area<'o> {
         let fits = taken.min(self.out.len() - start);
         self.out[start..start + fits].copy_from_slice(&piece[..fits]);
         self.count += taken;
-        self.history = self.history.and(piece);
+        self.given = self.given.and(piece);
         if taken < piece.len() {
             self.failures = self.failures.saturating_add(1);
             return Err(Full::Limit);

@@ -3,7 +3,6 @@
 #![tactic(auto)]
 
 pub mod area;
-pub mod history;
 pub mod json_texts;
 pub mod lay;
 pub mod programs;

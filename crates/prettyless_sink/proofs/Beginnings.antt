@@ -1,8 +1,9 @@
 -- What was appended so far is a beginning of the text, step by step.
-use Rattle.std.proofs.Common.{◌≡◌, ℕ, List, ◌++◌, ap, sym, ◌∙◌, subst, append_assoc, take, drop, take-append-drop}
+use Rattle.std.proofs.Common.{◌≡◌, ℕ, List, [], ◌++◌, ap, sym, ◌∙◌, subst, append_assoc, append-nil, arith, take, drop}
+use Rattle.std.proofs.Common.{take-append-drop}
 use Rattle.std.proofs.Common.{length, ◌-◌, Option, Result, Ok, Err, OnErr}
-use Rattle.std.proofs.lemmas.List.{take_rest}
-use Rattle.prettyless_sink.specs.Sink.{Accepts, AppendsBeginning, Refuses, rise}
+use Rattle.std.proofs.lemmas.List.{take_all, take_rest}
+use Rattle.prettyless_sink.specs.Sink.{Accepts, AppendsBeginning, AppendsCount, Refuses, rise}
 
 -- what holds anyway holds of an error
 pub on_err : {T E P : Type 0} (r : Result T E) → P → OnErr r P
@@ -48,6 +49,10 @@ refused_after old mid new text next n m k first second = λ is_known.
     let before = first is_known in
     let after = second before.0 in
     (after.0, (beginning_after _ _ _ text next before.1.0 after.1.0, after.1.1 ∙ ap rise before.1.1))
+
+-- a text that was appended was appended as far as its length
+pub whole_count : (old new text : List ℕ) → new ≡ old ++ text → AppendsCount old new text (length text)
+whole_count old new text e = ((λ within. rw (take_all (length text) text (omega arith)) e), (text, [], sym (append-nil text), e))
 
 -- so many bytes of the rest are done too
 pub split_on : (text done rest : List ℕ) (n : ℕ) → text ≡ done ++ rest → text ≡ (done ++ take n rest) ++ drop n rest

@@ -3,6 +3,7 @@
 
 pub mod error;
 pub mod fmt_write;
+pub mod ghost_bytes;
 pub mod io_write;
 pub mod pieces;
 pub mod render;

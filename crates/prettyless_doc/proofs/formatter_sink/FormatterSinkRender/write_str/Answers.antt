@@ -1,11 +1,7 @@
-use Rattle.std.proofs.Common.{◌≡◌, refl, sym, arith, rules, List, ℕ, [], ◌++◌, length, append-nil}
-use Rattle.std.proofs.lemmas.List.{take_all}
-use Rattle.prettyless_sink.specs.Sink.{AppendsCount, IsFairCount}
+use Rattle.std.proofs.Common.{refl, rules, length}
+use Rattle.prettyless_sink.specs.Sink.{IsFairCount}
+use Rattle.prettyless_sink.proofs.Beginnings.{whole_count}
 use Rattle.prettyless_doc.proofs.formatter_sink.FormatterSinkRender.write_str.Goals as goal
-
--- a text that was appended was appended as far as its length
-whole_count : (old new text : List ℕ) → new ≡ old ++ text → AppendsCount old new text (length text)
-whole_count old new text e = ((λ within. rw (take_all (length text) text (omega arith)) e), (text, [], sym (append-nil text), e))
 
 pub returns-clause-ok : goal.returns-clause-ok
 returns-clause-ok g c = λ known.

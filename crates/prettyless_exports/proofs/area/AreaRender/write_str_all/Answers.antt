@@ -6,14 +6,14 @@ pub invariant_of-self-clause-holds : goal.invariant_of-self-clause-holds
 invariant_of-self-clause-holds c =
     let area = c.args.self.now in
     rw c.and-self.ensures
-    (overlay_given area.history.before area.history.given c.as_bytes-piece.result.now area.limit {taken = c.min-taken.result}
+    (overlay_given area.before.bytes area.given.bytes c.as_bytes-piece.result.now area.limit {taken = c.min-taken.result}
     area.holds area.counts (omega arith) c.min-start.ensures c.min-fits.ensures (search rules))
 
 pub invariant_of-self-else-taken-piece-clause-holds : goal.invariant_of-self-else-taken-piece-clause-holds
 invariant_of-self-else-taken-piece-clause-holds c =
     let area = c.args.self.now in
     rw c.and-self.ensures
-    (overlay_given area.history.before area.history.given c.as_bytes-piece.result.now area.limit {taken = c.min-taken.result}
+    (overlay_given area.before.bytes area.given.bytes c.as_bytes-piece.result.now area.limit {taken = c.min-taken.result}
     area.holds area.counts (omega arith) c.min-start.ensures c.min-fits.ensures (search rules))
 
 pub returns-then-taken-piece-clause-err : goal.returns-then-taken-piece-clause-err

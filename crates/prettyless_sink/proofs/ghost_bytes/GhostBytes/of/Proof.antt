@@ -27,11 +27,11 @@ use denote.Triple.Entry.{on_entry, alive, Args}
 use denote.Triple.Spec.{Meets, triple_of}
 use denote.Triple.Table.{entered}
 use denote.Triple.Walked.{says, stay_none_slice, Stays, walk_of, Walks, ends_at, walked, Goes-none_slice, walk_Meets}
-use Rattle.prettyless_doc.specs.contracts.given.Given as given
-use Rattle.prettyless_doc.specs.contracts.given.Given.of as f
-use Rattle.prettyless_doc.specs.contracts.given.Given.of.Key.{name as key}
-use Rattle.prettyless_doc.proofs.given.Given.of.Statement as stated
-use Rattle.prettyless_doc.proofs.given.Given.of.Code as code
+use Rattle.prettyless_sink.specs.contracts.ghost_bytes.GhostBytes as ghost_bytes
+use Rattle.prettyless_sink.specs.contracts.ghost_bytes.GhostBytes.of as f
+use Rattle.prettyless_sink.specs.contracts.ghost_bytes.GhostBytes.of.Key.{name as key}
+use Rattle.prettyless_sink.proofs.ghost_bytes.GhostBytes.of.Statement as stated
+use Rattle.prettyless_sink.proofs.ghost_bytes.GhostBytes.of.Code as code
 
 abbrev stayed : Stays (f.ended).signature.params (f.ended).kept
 stayed = (stay_none_slice (0 ∷ []) tt (plain (λ _. u8)) yes, tt)
@@ -57,7 +57,7 @@ module _ {M : Type 1} {𝓤 : Ura M} (𝓛 : Logic 𝓤) (mem : Memory → SProp
         returns ! (look_at ! 0 refl) $ free_all ! refl $
         suffices ! _ (ends_at 𝓛 f.ended stayed (f.clauses 𝓛 mem run) bound (vstruct vnil) (record { bytes = a.0.now })
         (tt, tt) (tt, tt)) $
-        says ! refl $ pure_i ! (given.the_row.own_val (record { bytes = a.0.now }) (vstruct vnil ∷ []))
+        says ! refl $ pure_i ! (ghost_bytes.the_row.own_val (record { bytes = a.0.now }) (vstruct vnil ∷ []))
         ((λ vss. (tt, tt)), tt) ((tt, (refl, tt)), tt) $
         move ! (1 ∷ 2 ∷ 0 ∷ []) $ done !)
 

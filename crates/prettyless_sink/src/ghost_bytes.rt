@@ -1,41 +1,41 @@
-//! The bytes that a sink was given. Only proofs read them: they take no memory, and the calls here do nothing.
+//! Bytes that only proofs read. They take no memory, and the calls here do nothing.
 ghost use Rattle.std.specs.Prelude.{◌≡◌, ℕ, List, ◌++◌};
 ghost use Rattle.std.specs.Borrow.{ftrue};
 
 use std::marker::Model;
 
-/// A clause reads the bytes as `bytes`.
+/// Bytes that only proofs read: what a sink was given, for instance. A clause reads the bytes as `bytes`.
 #[derive(Drop)]
-pub struct Given {
+pub struct GhostBytes {
     pub ghost bytes: { List ℕ },
 }
 
-impl Model for Given {
+impl Model for GhostBytes {
     ghost also_owns = { λ _. ftrue };
 }
 
-impl Given {
+impl GhostBytes {
     /// These bytes.
     ///
     /// ```
-    /// Given::of(b"") // nothing was given yet
+    /// GhostBytes::of(b"") // nothing was given yet
     /// ```
     #[inline(always)]
-    pub fn of(_bytes: &[u8]) -> Given
+    pub fn of(_bytes: &[u8]) -> GhostBytes
         ensures { result ≡ record { bytes = _bytes.now } }
     {
-        Given {}
+        GhostBytes {}
     }
 
-    /// The same, and then this piece.
+    /// These bytes, and then those of a piece.
     ///
     /// ```
     /// given = given.and(piece);
     /// ```
     #[inline(always)]
-    pub fn and(&self, _piece: &[u8]) -> Given
+    pub fn and(&self, _piece: &[u8]) -> GhostBytes
         ensures { result ≡ record { bytes = self.now.bytes ++ _piece.now } }
     {
-        Given {}
+        GhostBytes {}
     }
 }

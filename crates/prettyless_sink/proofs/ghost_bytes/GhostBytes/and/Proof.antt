@@ -29,15 +29,15 @@ use denote.Triple.Spec.{Meets, triple_of}
 use denote.Triple.Table.{entered}
 use denote.Triple.Walked.{says, stay_none_ref, stay_none_slice, Stays, walk_of, Walks, ends_at, walked, Goes-none_ref, Goes-none_slice}
 use denote.Triple.Walked.{walk_Meets}
-use Rattle.prettyless_doc.specs.declared.given.Given.{Given}
-use Rattle.prettyless_doc.specs.contracts.given.Given as given
-use Rattle.prettyless_doc.specs.contracts.given.Given.and as f
-use Rattle.prettyless_doc.specs.contracts.given.Given.and.Key.{name as key}
-use Rattle.prettyless_doc.proofs.given.Given.and.Statement as stated
-use Rattle.prettyless_doc.proofs.given.Given.and.Code as code
+use Rattle.prettyless_sink.specs.declared.ghost_bytes.GhostBytes.{GhostBytes}
+use Rattle.prettyless_sink.specs.contracts.ghost_bytes.GhostBytes as ghost_bytes
+use Rattle.prettyless_sink.specs.contracts.ghost_bytes.GhostBytes.and as f
+use Rattle.prettyless_sink.specs.contracts.ghost_bytes.GhostBytes.and.Key.{name as key}
+use Rattle.prettyless_sink.proofs.ghost_bytes.GhostBytes.and.Statement as stated
+use Rattle.prettyless_sink.proofs.ghost_bytes.GhostBytes.and.Code as code
 
 abbrev stayed : Stays (f.ended).signature.params (f.ended).kept
-stayed = (stay_none_ref (0 ∷ []) tt (plain (λ _. given.the_row)) yes, (stay_none_slice (1 ∷ []) tt (plain (λ _. u8)) yes, tt))
+stayed = (stay_none_ref (0 ∷ []) tt (plain (λ _. ghost_bytes.the_row)) yes, (stay_none_slice (1 ∷ []) tt (plain (λ _. u8)) yes, tt))
 
 module _ {M : Type 1} {𝓤 : Ura M} (𝓛 : Logic 𝓤) (mem : Memory → SProp 𝓤) (run : Routine → Fun 𝓤) (C : Calls 𝓤 𝓛.H) (Λ : Loops 𝓤 𝓛.H) where
   open 𝓛 use {H}
@@ -49,7 +49,7 @@ module _ {M : Type 1} {𝓤 : Ura M} (𝓛 : Logic 𝓤) (mem : Memory → SProp
     abbrev piece : Val
     piece = slice_val a.1.0.ref_ptr (length a.1.0.now)
 
-    abbrev after : Given
+    abbrev after : GhostBytes
     after = record { bytes = a.0.now.bytes ++ a.1.0.now }
 
     abbrev bound : (walk_of 𝓛 f.ended stayed (f.clauses 𝓛 mem run)).Ghost
@@ -66,20 +66,20 @@ module _ {M : Type 1} {𝓤 : Ura M} (𝓛 : Logic 𝓤) (mem : Memory → SProp
         (agg ! (no_more !)) refl (tt, tt) $
         returns ! (look_at ! 0 refl) $ free_all ! refl $
         suffices ! _ (ends_at 𝓛 f.ended stayed (f.clauses 𝓛 mem run) bound (vstruct vnil) after (tt, (tt, tt)) (tt, (tt, tt))) $
-        says ! refl $ pure_i ! (given.the_row.own_val after (vstruct vnil ∷ [])) ((λ vss. (tt, tt)), tt) ((tt, (refl, tt)), tt) $
+        says ! refl $ pure_i ! (ghost_bytes.the_row.own_val after (vstruct vnil ∷ [])) ((λ vss. (tt, tt)), tt) ((tt, (refl, tt)), tt) $
         move ! (1 ∷ 2 ∷ 0 ∷ []) $ done !)
 
   walks : Walks 𝓛 f.ended stayed (WpFn 𝓤 H C Λ code.function) (f.clauses 𝓛 mem run)
   walks =
       walked 𝓛 f.ended stayed (f.clauses 𝓛 mem run) (WpFn 𝓤 H C Λ code.function) (λ κs. (shr_vals, (shr_slice_vals, tt)))
-      (λ κs. (shr_Tells (named 0) κs.0 given.the_row, (shr_slice_Tells (named 1) κs.1.0 u8, tt)))
+      (λ κs. (shr_Tells (named 0) κs.0 ghost_bytes.the_row, (shr_slice_Tells (named 1) κs.1.0 u8, tt)))
       (λ κs qs bounds a g are. via 𝓤 _ (fst∗ 𝓤 _ (emp 𝓤)) (walk κs qs a are.1.0.0.1.0))
 
 meets : {M : Type 1} {𝓤 : Ura M} (𝓛 : Logic 𝓤) (mem : Memory → SProp 𝓤) (run : Routine → Fun 𝓤) (𝓣 : Tables 𝓤 𝓛.H)
     → Meets 𝓛 f.signature (WpFn 𝓤 𝓛.H 𝓣.C 𝓣.Λ code.function) (f.spec 𝓛 mem run)
 meets {𝓤 = 𝓤} 𝓛 mem run 𝓣 =
     walk_Meets 𝓛 f.ended stayed (
-      Goes-none_ref 𝓛 2 (0 ∷ []) tt (plain (λ _. given.the_row)) yes,
+      Goes-none_ref 𝓛 2 (0 ∷ []) tt (plain (λ _. ghost_bytes.the_row)) yes,
       (Goes-none_slice 𝓛 2 (1 ∷ []) tt (plain (λ _. u8)) yes, tt),
     ) (f.clauses 𝓛 mem run)
     (WpFn 𝓤 𝓛.H 𝓣.C 𝓣.Λ code.function) (WpFn-mono 𝓤 𝓛.H 𝓛.laws 𝓣 code.function) (walks 𝓛 mem run 𝓣.C 𝓣.Λ)
