@@ -4,7 +4,7 @@ ghost use Rattle.prettyless_doc.specs.BuildErrors.{IsMemory};
 ghost use Rattle.prettyless_doc.specs.DocTree.{tree_of, built};
 
 use crate::doc::{BuildDoc, Doc, DocPtr};
-use crate::parts::{Parts, parts_of};
+use crate::parts::{NodeParts, parts_of};
 use crate::place::DocPlace;
 use crate::text::BuildError;
 
@@ -15,9 +15,9 @@ impl<'a, T: DocPtr<'a>> Doc<'a, T> {
         ensures err { IfErr result IsMemory }
     {
         Ok(match parts_of(place.memory(), self)? {
-            Parts::None(node) => node,
-            Parts::One(kind, inner) => Doc::around(kind, place.clone_ptr(inner)?),
-            Parts::Two(kind, first, second) => {
+            NodeParts::None(node) => node,
+            NodeParts::One(kind, inner) => Doc::around(kind, place.clone_ptr(inner)?),
+            NodeParts::Two(kind, first, second) => {
                 Doc::of_two(kind, place.clone_ptr(first)?, place.clone_ptr(second)?)
             }
         })

@@ -102,8 +102,8 @@ fn shape_of_choice<N: Shown>(broken: N, flat: N) -> DebugShape<'static, N>
     ensures { IsBelow N.tree (BreakOrFlat (N.tree broken) (N.tree flat)) result }
 {
     match line_of(&broken, &flat) {
-        Some(SoftLine::OrSpace) => DebugShape::Name("LineOrSpace"),
-        Some(SoftLine::OrNil) => DebugShape::Name("LineOrNil"),
+        Some(FlatLine::Space) => DebugShape::Name("LineOrSpace"),
+        Some(FlatLine::Nil) => DebugShape::Name("LineOrNil"),
         None if matches!(flat.view(), View::Nil) => DebugShape::One(
             Head::Name("WhenBreak"),
             broken,
@@ -122,26 +122,26 @@ fn shape_of_group<N: Shown>(inner: N) -> DebugShape<'static, N>
         _ => None,
     };
     match line {
-        Some(SoftLine::OrSpace) => DebugShape::Name("SoftLineOrSpace"),
-        Some(SoftLine::OrNil) => DebugShape::Name("SoftLineOrNil"),
+        Some(FlatLine::Space) => DebugShape::Name("SoftLineOrSpace"),
+        Some(FlatLine::Nil) => DebugShape::Name("SoftLineOrNil"),
         None => DebugShape::One(Head::Name("Group"), inner),
     }
 }
 
-// A line break that is something else where lines are flat.
-enum SoftLine {
-    OrSpace,
-    OrNil,
+// What a line break is where lines are flat.
+enum FlatLine {
+    Space,
+    Nil,
 }
 
 // The line that these two are, if they are one.
-fn line_of<N: Shown>(broken: &N, flat: &N) -> Option<SoftLine> {
+fn line_of<N: Shown>(broken: &N, flat: &N) -> Option<FlatLine> {
     if !matches!(broken.view(), View::HardLine) {
         None
     } else if flat.is_borrowed_space() {
-        Some(SoftLine::OrSpace)
+        Some(FlatLine::Space)
     } else if matches!(flat.view(), View::Nil) {
-        Some(SoftLine::OrNil)
+        Some(FlatLine::Nil)
     } else {
         None
     }

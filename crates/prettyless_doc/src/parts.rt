@@ -43,7 +43,7 @@ impl<'a, T: DocPtr<'a>> Doc<'a, T> {
 
 /// A node by what it holds.
 #[derive(Drop)]
-pub enum Parts<'d, 'a, T> {
+pub enum NodeParts<'d, 'a, T> {
     /// A copy of the node, as it holds no document.
     None(Doc<'a, T>),
     /// Its kind, and the document that it holds.
@@ -57,38 +57,44 @@ pub enum Parts<'d, 'a, T> {
 pub fn parts_of<'d, 'a, T: DocPtr<'a>>(
     memory: Global,
     node: &'d Doc<'a, T>,
-) -> Result<Parts<'d, 'a, T>, BuildError>
+) -> Result<NodeParts<'d, 'a, T>, BuildError>
     ensures ok { IfOk result (λ p. parts_tree T.tree p ≡ tree_of T.tree node.now) }
     ensures err { IfErr result IsMemory }
 {
     Ok(match node {
-        Doc::Nil => Parts::None(Doc::Nil),
-        Doc::Fail => Parts::None(Doc::Fail),
-        Doc::Text(text) => Parts::None(Doc::Text(text.clone(memory)?)),
+        Doc::Nil => NodeParts::None(Doc::Nil),
+        Doc::Fail => NodeParts::None(Doc::Fail),
+        Doc::Text(text) => NodeParts::None(Doc::Text(text.clone(memory)?)),
         Doc::TextWithLen(width, text) => {
-            Parts::None(Doc::TextWithLen(*width, text.clone(memory)?))
+            NodeParts::None(Doc::TextWithLen(*width, text.clone(memory)?))
         }
-        Doc::MultilineText(payload) => Parts::None(Doc::MultilineText(payload.clone(memory)?)),
-        Doc::WeakSpace => Parts::None(Doc::WeakSpace),
-        Doc::HardLine => Parts::None(Doc::HardLine),
-        Doc::WeakLine => Parts::None(Doc::WeakLine),
-        Doc::Append(first, second) => Parts::Two(Pair::Append, first, second),
-        Doc::LineSuffix(inner) => Parts::One(Single::LineSuffix, inner),
-        Doc::Nest(offset, inner) => Parts::One(Single::Indented(Indenting::Nest(*offset)), inner),
-        Doc::DedentToRoot(inner) => Parts::One(Single::Indented(Indenting::DedentToRoot), inner),
-        Doc::Align(inner) => Parts::One(Single::Indented(Indenting::Align), inner),
-        Doc::ExpandParent => Parts::None(Doc::ExpandParent),
-        Doc::Flatten(inner) => Parts::One(Single::Flatten, inner),
-        Doc::BreakOrFlat(broken, flat) => Parts::Two(Pair::BreakOrFlat, broken, flat),
-        Doc::Group(inner) => Parts::One(Single::Group, inner),
-        Doc::Union(first, second) => Parts::Two(Pair::Union, first, second),
-        Doc::PartialUnion(first, second) => Parts::Two(Pair::PartialUnion, first, second),
-        Doc::OnColumn(test, first, second) => Parts::Two(
+        Doc::MultilineText(payload) => NodeParts::None(Doc::MultilineText(payload.clone(memory)?)),
+        Doc::WeakSpace => NodeParts::None(Doc::WeakSpace),
+        Doc::HardLine => NodeParts::None(Doc::HardLine),
+        Doc::WeakLine => NodeParts::None(Doc::WeakLine),
+        Doc::Append(first, second) => NodeParts::Two(Pair::Append, first, second),
+        Doc::LineSuffix(inner) => NodeParts::One(Single::LineSuffix, inner),
+        Doc::Nest(offset, inner) => NodeParts::One(
+            Single::Indented(Indenting::Nest(*offset)),
+            inner,
+        ),
+        Doc::DedentToRoot(inner) => NodeParts::One(
+            Single::Indented(Indenting::DedentToRoot),
+            inner,
+        ),
+        Doc::Align(inner) => NodeParts::One(Single::Indented(Indenting::Align), inner),
+        Doc::ExpandParent => NodeParts::None(Doc::ExpandParent),
+        Doc::Flatten(inner) => NodeParts::One(Single::Flatten, inner),
+        Doc::BreakOrFlat(broken, flat) => NodeParts::Two(Pair::BreakOrFlat, broken, flat),
+        Doc::Group(inner) => NodeParts::One(Single::Group, inner),
+        Doc::Union(first, second) => NodeParts::Two(Pair::Union, first, second),
+        Doc::PartialUnion(first, second) => NodeParts::Two(Pair::PartialUnion, first, second),
+        Doc::OnColumn(test, first, second) => NodeParts::Two(
             Pair::Chosen(ChoiceTest::OnColumn(*test)),
             first,
             second,
         ),
-        Doc::OnNesting(test, first, second) => Parts::Two(
+        Doc::OnNesting(test, first, second) => NodeParts::Two(
             Pair::Chosen(ChoiceTest::OnNesting(*test)),
             first,
             second,

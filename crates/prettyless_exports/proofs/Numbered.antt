@@ -6,8 +6,8 @@ use Rattle.prettyless_exports.proofs.Limits.{keeps_limit}
 use Rattle.prettyless_model.specs.Layout.{bytes_in, layout}
 use Rattle.prettyless_model.specs.Tree.{Tree}
 use Rattle.prettyless_model.specs.declared.options.RenderOptions.{RenderOptions}
-use Rattle.prettyless_program.specs.declared.fault.Fault.{Fault}
-use Rattle.prettyless_program.specs.declared.fault.Fault.TheVariants as fault
+use Rattle.prettyless_program.specs.declared.fault.ProgramFault.{ProgramFault}
+use Rattle.prettyless_program.specs.declared.fault.ProgramFault.TheVariants as fault
 use Rattle.prettyless_program.proofs.OneDocument.{at_most_one}
 use Rattle.prettyless_program.specs.Faults.{WritesNone}
 use Rattle.prettyless_exports.specs.ProgramAnswers.{Answers, BeginsLayout, IsCutShort, IsLaidOut, IsPast, IsProgramRefused}
@@ -65,7 +65,7 @@ module _ (o : RenderOptions) (limit : ℕ) (program old new : List ℕ) (written
   past_limit (status.Refused fault.Memory) h e = absurd (omega arith)
   past_limit s h e = absurd (omega arith)
 
-  refused : (f : Fault) → ¬ (f ≡ fault.Memory) → StatusHolds o limit program old new written (status.Refused f)
+  refused : (f : ProgramFault) → ¬ (f ≡ fault.Memory) → StatusHolds o limit program old new written (status.Refused f)
       → IsProgramRefused f program old new written
   refused f other h = let r = h.0 other in record { has_fault = r.0; no_document = r.1; untouched = h.1 }
 

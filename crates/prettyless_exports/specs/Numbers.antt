@@ -3,7 +3,7 @@ use Rattle.std.specs.Prelude.{ℕ}
 use Rattle.prettyless_exports.specs.declared.status.Status.{Status}
 use Rattle.prettyless_exports.specs.declared.status.Status.TheVariants.{LaidOut, Memory, Fails, NotJson, NotToml, Refused}
 use Rattle.prettyless_exports.specs.declared.text.Put.TheVariants.{Whole, Beginning, PastLimit}
-use Rattle.prettyless_program.specs.declared.fault.Fault.TheVariants as fault
+use Rattle.prettyless_program.specs.declared.fault.ProgramFault.TheVariants as fault
 
 -- Numbers are for ever: new ones may come, and none changes.
 abbrev pub number_of : Status → ℕ

@@ -11,8 +11,8 @@ use Rattle.prettyless_model.specs.declared.options.IndentationPolicy.{Indentatio
 use Rattle.prettyless_model.specs.declared.options.IndentationPolicy.TheVariants.{Eager, Deferred}
 use Rattle.prettyless_program.specs.Programs.{WritesDocument}
 use Rattle.prettyless_program.specs.Faults.{HasFault, WritesNone}
-use Rattle.prettyless_program.specs.declared.fault.Fault.{Fault}
-use Rattle.prettyless_program.specs.declared.fault.Fault.TheVariants as fault
+use Rattle.prettyless_program.specs.declared.fault.ProgramFault.{ProgramFault}
+use Rattle.prettyless_program.specs.declared.fault.ProgramFault.TheVariants as fault
 
 -- ---- what the words of a call mean
 
@@ -57,7 +57,7 @@ abbrev pub BeginsLayout : RenderOptions → List ℕ → List ℕ → Type 0
 BeginsLayout o program front = (d : Tree) → WritesDocument program d → (back : List ℕ) × (bytes_in (layout o d) ≡ front ++ back)
 
 -- the program has this fault and writes no document, and the area is as it was
-pub record IsProgramRefused (fault : Fault) (program old new : List ℕ) (written : ℕ) : Type 0 where
+pub record IsProgramRefused (fault : ProgramFault) (program old new : List ℕ) (written : ℕ) : Type 0 where
   pub has_fault : HasFault fault program
   pub no_document : WritesNone program
   pub untouched : IsUntouched old new written

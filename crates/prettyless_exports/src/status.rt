@@ -3,7 +3,7 @@ ghost use Rattle.std.specs.Prelude.{◌≡◌};
 ghost use Rattle.prettyless_exports.specs.Numbers.{number_of};
 
 use crate::text::Put;
-use prettyless_program::Fault;
+use prettyless_program::ProgramFault;
 
 /// How a call ended.
 #[derive(Clone, Copy, Debug, PartialEq, Eq)]
@@ -20,7 +20,7 @@ pub enum Status {
     /// The bytes are not a TOML text, or brackets are too deep in one another.
     NotToml,
     /// The bytes were not read as a document. The area is as it was, and `written` is 0.
-    Refused(Fault),
+    Refused(ProgramFault),
 }
 
 impl Status {
@@ -31,17 +31,17 @@ impl Status {
         match self {
             Status::LaidOut(Put::Whole) => 0,
             Status::LaidOut(Put::Beginning) => 1,
-            Status::Memory | Status::Refused(Fault::Memory) => 2,
+            Status::Memory | Status::Refused(ProgramFault::Memory) => 2,
             Status::Fails => 3,
             Status::LaidOut(Put::PastLimit) => 4,
             Status::NotJson => 5,
             Status::NotToml => 6,
-            Status::Refused(Fault::Instruction) => 16,
-            Status::Refused(Fault::Operand) => 17,
-            Status::Refused(Fault::Text) => 18,
-            Status::Refused(Fault::Document) => 19,
-            Status::Refused(Fault::Unopened) => 20,
-            Status::Refused(Fault::Unclosed) => 21,
+            Status::Refused(ProgramFault::Instruction) => 16,
+            Status::Refused(ProgramFault::Operand) => 17,
+            Status::Refused(ProgramFault::Text) => 18,
+            Status::Refused(ProgramFault::Document) => 19,
+            Status::Refused(ProgramFault::Unopened) => 20,
+            Status::Refused(ProgramFault::Unclosed) => 21,
         }
     }
 }

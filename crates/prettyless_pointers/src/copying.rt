@@ -9,7 +9,7 @@ ghost use Rattle.prettyless_pointers.specs.Copying.{copying_work_at};
 ghost use Rattle.prettyless_pointers.specs.Trees.{box_tree};
 
 use crate::boxes::BoxDoc;
-use prettyless_doc::parts::{Parts, parts_of};
+use prettyless_doc::parts::{NodeParts, parts_of};
 use prettyless_doc::{BuildError, Doc, DocPtr};
 use prettyless_model::kind::{Pair, Single};
 use std::alloc::Global;
@@ -78,12 +78,12 @@ fn begin<'d, 'a>(
     ensures err { IfErr result IsMemory }
 {
     match parts_of(alloc, source.doc())? {
-        Parts::None(node) => put(alloc, node),
-        Parts::One(kind, inner) => {
+        NodeParts::None(node) => put(alloc, node),
+        NodeParts::One(kind, inner) => {
             push(frames, CopyFrame::Around(kind))?;
             Ok(CopyTask::Copy(inner))
         }
-        Parts::Two(kind, first, second) => {
+        NodeParts::Two(kind, first, second) => {
             push(frames, CopyFrame::First(kind, second))?;
             Ok(CopyTask::Copy(first))
         }

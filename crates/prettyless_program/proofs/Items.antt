@@ -3,9 +3,9 @@ use Rattle.std.proofs.Common.{◌≡◌, List, [], ◌∷◌, ◌++◌, refl, ap
 use Rattle.prettyless_model.specs.Tree.{Tree}
 use Rattle.prettyless_program.specs.Programs.{CodeItem}
 use Rattle.prettyless_program.specs.Made.{entry_item, items_of_entries}
-use Rattle.prettyless_program.specs.declared.stack.Entry.{Entry}
+use Rattle.prettyless_program.specs.declared.stack.StackEntry.{StackEntry}
 
-pub items_of_push : {T : Type 0} → (tree : T → Tree) (es : List (Entry T)) (e : Entry T) →
+pub items_of_push : {T : Type 0} → (tree : T → Tree) (es : List (StackEntry T)) (e : StackEntry T) →
     items_of_entries tree (es ++ e ∷ []) ≡ entry_item tree
     e ∷ items_of_entries tree es
 items_of_push tree [] e = refl

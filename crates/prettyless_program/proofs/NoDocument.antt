@@ -5,9 +5,9 @@ use Rattle.prettyless_model.specs.Tree.{Tree}
 use Rattle.prettyless_program.specs.Faults.{IsStuck, Stops, Reaches, WritesNone}
 use Rattle.prettyless_program.specs.Instructions.{Instruction, Close}
 use Rattle.prettyless_program.specs.Programs.{CodeItem, IsText, IsWritable, then_made, encoded, run, item_step, whole}
-use Rattle.prettyless_program.specs.declared.fault.Fault.{Fault}
-use Rattle.prettyless_program.specs.declared.fault.Fault.TheVariants.{Memory, Instruction as NoInstruction, Operand, Text, Document}
-use Rattle.prettyless_program.specs.declared.fault.Fault.TheVariants.{Unopened, Unclosed}
+use Rattle.prettyless_program.specs.declared.fault.ProgramFault.{ProgramFault}
+use Rattle.prettyless_program.specs.declared.fault.ProgramFault.TheVariants.{Memory, Instruction as NoInstruction, Operand, Text, Document}
+use Rattle.prettyless_program.specs.declared.fault.ProgramFault.TheVariants.{Unopened, Unclosed}
 use Rattle.prettyless_program.proofs.Runs.{run-append}
 use Rattle.prettyless_program.proofs.Reading.{instruction_same, not_short}
 use Rattle.prettyless_program.proofs.Same.{goes_on}
@@ -25,7 +25,7 @@ stuck j (i ∷ is) items d w s m =
     none_some d (sym (ap (λ (o : Option (List CodeItem)). then_made (then_made o (run is)) whole) e) ∙ m)
 
 -- instructions that make a document do not stop
-goes_through : (fault : Fault) (later : List Instruction) (items : List CodeItem) (d : Tree) → ¬ (fault ≡ Memory)
+goes_through : (fault : ProgramFault) (later : List Instruction) (items : List CodeItem) (d : Tree) → ¬ (fault ≡ Memory)
     → AllByRecursion IsWritable later → Stops fault (encoded later) items → then_made (run later items) whole ≡ Some d → ⊥
 goes_through Memory later items d other w s m = other refl
 goes_through NoInstruction [] items d other w s m = absurd (let e = s.2 in cc)
@@ -41,7 +41,7 @@ goes_through Unopened later items d other w s m = stuck Close later items d w s 
 goes_through Unclosed [] items d other w s m = none_some d (sym s.1 ∙ m)
 goes_through Unclosed (i ∷ is) items d other w s m = absurd (let e = s.0 in cc)
 
-pub writes_none : (fault : Fault) (bytes rest : List ℕ) (items : List CodeItem) → ¬ (fault ≡ Memory) → Reaches bytes rest items
+pub writes_none : (fault : ProgramFault) (bytes rest : List ℕ) (items : List CodeItem) → ¬ (fault ≡ Memory) → Reaches bytes rest items
     → Stops fault rest items → WritesNone bytes
 writes_none fault bytes rest items other reached stops d w =
     let k = goes_on reached.instructions w.instructions rest reached.writable w.writable (sym w.bytes ∙ reached.bytes) in

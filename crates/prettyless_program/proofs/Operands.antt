@@ -6,14 +6,15 @@ use Rattle.prettyless_program.specs.Codes.{code_of}
 use Rattle.prettyless_program.specs.Faults.{IsTextFault, Stops}
 use Rattle.prettyless_program.specs.Instructions.{Write, Count, WrapNest, BothOnColumn, BothOnNesting}
 use Rattle.prettyless_program.specs.Programs.{CodeItem, number, sized}
-use Rattle.prettyless_program.specs.declared.fault.Fault.{Fault}
-use Rattle.prettyless_program.specs.declared.fault.Fault.TheVariants.{Operand, Text}
+use Rattle.prettyless_program.specs.declared.fault.ProgramFault.{ProgramFault}
+use Rattle.prettyless_program.specs.declared.fault.ProgramFault.TheVariants.{Operand, Text}
 use Rattle.prettyless_program.specs.declared.instruction.Words.{Words}
 use Rattle.prettyless_program.specs.declared.instruction.Words.TheVariants as words
 
 -- where no text comes after this code
 abbrev pub StopsAtText : ℕ → Type 0
-StopsAtText code = (fault : Fault) (bytes : List ℕ) (items : List CodeItem) → IsTextFault fault bytes → Stops fault (code ∷ bytes) items
+StopsAtText code = (fault : ProgramFault) (bytes : List ℕ) (items : List CodeItem) → IsTextFault fault bytes
+    → Stops fault (code ∷ bytes) items
 
 text_stops : (w : Words) (code : ℕ) → ((s : List ℕ) → code ≡ code_of (Write w s)) → StopsAtText code
 text_stops w code same Operand bytes items cut = (Write w [], bytes, ap (λ (c : ℕ). c ∷ bytes) (same []), cut)
@@ -33,7 +34,7 @@ texts_stop = (
   text_stops words.Multiline 19 (λ s. refl),
 )
 
-pub counted_stops : (n : ℕ) (fault : Fault) (bytes rest : List ℕ) (items : List CodeItem) → n < 2 ^ 64 → bytes ≡ number n ++ rest
+pub counted_stops : (n : ℕ) (fault : ProgramFault) (bytes rest : List ℕ) (items : List CodeItem) → n < 2 ^ 64 → bytes ≡ number n ++ rest
     → IsTextFault fault rest → Stops fault (18 ∷ bytes) items
 counted_stops n Operand bytes rest items f e cut = (Count n [], bytes, refl, inr (n, rest, f, e, cut))
 counted_stops n Text bytes rest items f e (s, later, h, fits, other) = (

@@ -5,7 +5,7 @@ use Rattle.prettyless_program.specs.Faults.{Reaches, RefusesProgram, Stops}
 use Rattle.prettyless_program.specs.Instructions.{Instruction}
 use Rattle.prettyless_program.specs.Programs.{CodeItem, IsWritable, WritesDocument, then_made, written, encoded, run}
 use Rattle.prettyless_program.specs.Programs.{item_step, whole}
-use Rattle.prettyless_program.specs.declared.fault.Fault.{Fault}
+use Rattle.prettyless_program.specs.declared.fault.ProgramFault.{ProgramFault}
 use Rattle.prettyless_program.proofs.NoDocument.{writes_none}
 use Rattle.prettyless_program.proofs.Runs.{run-append, encoded-append, All-append}
 
@@ -39,7 +39,7 @@ at_end bytes rest items d r e w = record {
 }
 
 -- where it stops
-pub refused : (fault : Fault) (bytes rest : List ℕ) (items : List CodeItem) → Reaches bytes rest items → Stops fault rest items
+pub refused : (fault : ProgramFault) (bytes rest : List ℕ) (items : List CodeItem) → Reaches bytes rest items → Stops fault rest items
     → RefusesProgram fault bytes
 refused fault bytes rest items r s =
     λ other. (record { rest = rest; items = items; reached = r; stops = s }, writes_none fault bytes rest items other r s)

@@ -9,9 +9,9 @@ use Rattle.prettyless_program.specs.Programs as programs
 use Rattle.prettyless_program.specs.Instructions.{Instruction, Write, Count, Close}
 use Rattle.prettyless_program.specs.Programs.{CodeItem, WritesDocument, Fits, IsText, IsWritable, number, sized, operands, written}
 use Rattle.prettyless_program.specs.Programs.{encoded, run, item_step, whole}
-use Rattle.prettyless_program.specs.declared.fault.Fault.{Fault}
-use Rattle.prettyless_program.specs.declared.fault.Fault.TheVariants.{Memory, Instruction as NoInstruction, Operand, Text, Document}
-use Rattle.prettyless_program.specs.declared.fault.Fault.TheVariants.{Unopened, Unclosed}
+use Rattle.prettyless_program.specs.declared.fault.ProgramFault.{ProgramFault}
+use Rattle.prettyless_program.specs.declared.fault.ProgramFault.TheVariants.{Memory, Instruction as NoInstruction, Operand, Text, Document}
+use Rattle.prettyless_program.specs.declared.fault.ProgramFault.TheVariants.{Unopened, Unclosed}
 
 -- a text is cut off: the bytes end in its length, or before so many bytes
 abbrev pub IsTextCutOff : List ℕ → Type 0
@@ -19,7 +19,7 @@ IsTextCutOff bytes = (length bytes < 4)
     ⊎ ((n : ℕ) × (rest : List ℕ) × (n < 2 ^ 32) × (bytes ≡ to_le_bytes w32 n ++ rest) × (length rest < n))
 
 -- no text comes next: it is cut off, or it is not UTF-8
-abbrev pub IsTextFault : Fault → List ℕ → Type 0
+abbrev pub IsTextFault : ProgramFault → List ℕ → Type 0
 IsTextFault Operand bytes = IsTextCutOff bytes
 IsTextFault Text bytes = (s : List ℕ) × (rest : List ℕ) × (bytes ≡ sized s ++ rest) × (length s < 2 ^ 32) × ¬ IsUtf8 s
 IsTextFault fault bytes = ⊥
@@ -40,7 +40,7 @@ abbrev pub IsStuck : Instruction → List ℕ → List CodeItem → Type 0
 IsStuck i bytes items = IsWritable i × ((rest : List ℕ) × (bytes ≡ written i ++ rest)) × (item_step i items ≡ None)
 
 -- What each fault says of the bytes that are left, and of the items that were made before them.
-abbrev pub Stops : Fault → List ℕ → List CodeItem → Type 0
+abbrev pub Stops : ProgramFault → List ℕ → List CodeItem → Type 0
 Stops Memory bytes items = ⊤
 -- the next byte is the code of no instruction
 Stops NoInstruction bytes items = (code : ℕ) × (rest : List ℕ) × (bytes ≡ code ∷ rest) × ((i : Instruction) → ¬ (code ≡ code_of i))
@@ -63,7 +63,7 @@ pub record Reaches (program rest : List ℕ) (items : List CodeItem) : Type 0 wh
   pub made : run instructions [] ≡ Some items
 
 -- the bytes have this fault somewhere
-pub record HasFault (fault : Fault) (program : List ℕ) : Type 0 where
+pub record HasFault (fault : ProgramFault) (program : List ℕ) : Type 0 where
   pub rest : List ℕ
   pub items : List CodeItem
   pub reached : Reaches program rest items
@@ -74,5 +74,5 @@ abbrev pub WritesNone : List ℕ → Type 0
 WritesNone bytes = (d : Tree) → ¬ WritesDocument bytes d
 
 -- unless memory was refused, the bytes have this fault, and write no document
-abbrev pub RefusesProgram : Fault → List ℕ → Type 0
+abbrev pub RefusesProgram : ProgramFault → List ℕ → Type 0
 RefusesProgram fault bytes = ¬ (fault ≡ Memory) → HasFault fault bytes × WritesNone bytes

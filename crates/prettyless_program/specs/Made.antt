@@ -5,8 +5,8 @@ use Rattle.prettyless_program.specs.Instructions as instructions
 use Rattle.prettyless_program.specs.Programs as programs
 use Rattle.prettyless_program.specs.declared.instruction.Instruction.{Instruction}
 use Rattle.prettyless_program.specs.declared.instruction.Instruction.TheVariants as instruction
-use Rattle.prettyless_program.specs.declared.stack.Entry.{Entry}
-use Rattle.prettyless_program.specs.declared.stack.Entry.TheVariants.{Document, Opened}
+use Rattle.prettyless_program.specs.declared.stack.StackEntry.{StackEntry}
+use Rattle.prettyless_program.specs.declared.stack.StackEntry.TheVariants.{Document, Opened}
 
 -- an instruction of the code
 abbrev pub instruction_of : Instruction → instructions.Instruction
@@ -19,11 +19,11 @@ instruction_of instruction.Open = instructions.Open
 instruction_of instruction.Close = instructions.Close
 
 -- an entry of the code
-abbrev pub entry_item : {T : Type 0} → (T → Tree) → Entry T → programs.CodeItem
+abbrev pub entry_item : {T : Type 0} → (T → Tree) → StackEntry T → programs.CodeItem
 entry_item tree (Document d) = programs.Document (tree d)
 entry_item tree Opened = programs.Opened
 
 -- the items of entries, the last first
-abbrev pub items_of_entries : {T : Type 0} → (T → Tree) → List (Entry T) → List programs.CodeItem
+abbrev pub items_of_entries : {T : Type 0} → (T → Tree) → List (StackEntry T) → List programs.CodeItem
 items_of_entries tree [] = []
 items_of_entries tree (e ∷ es) = items_of_entries tree es ++ entry_item tree e ∷ []

@@ -4,23 +4,23 @@ ghost use Rattle.prettyless_program.specs.Faults.{RefusesProgram, Stops};
 ghost use Rattle.prettyless_program.specs.Made.{items_of_entries};
 ghost use Rattle.prettyless_program.specs.Programs.{whole, WritesDocument};
 
-use crate::fault::Fault;
+use crate::fault::ProgramFault;
 use crate::making::follow;
 use crate::reader::Reader;
-use crate::stack::{Entry, gather};
+use crate::stack::{StackEntry, gather};
 use prettyless_doc::DocPlace;
 
 /// The one document that is left at the end.
 fn whole<'a, D: DocPlace<'a>>(
     place: &'a D,
-    entries: &mut Vec<Entry<D::Doc>>,
-) -> Result<D::Doc, Fault>
+    entries: &mut Vec<StackEntry<D::Doc>>,
+) -> Result<D::Doc, ProgramFault>
     ensures ok { IfOk result (λ p. whole (items_of_entries D.Doc.tree entries.old.items) ≡ Some (D.Doc.tree p)) }
     ensures err { IfErr result (λ fault. Stops fault [] (items_of_entries D.Doc.tree entries.old.items)) }
 {
     let gathered = gather(place, entries)?;
     if gathered.opened {
-        return Err(Fault::Unclosed);
+        return Err(ProgramFault::Unclosed);
     }
     Ok(gathered.document)
 }
@@ -33,12 +33,12 @@ fn whole<'a, D: DocPlace<'a>>(
 /// decode(place, &[3])? // "\n"
 /// ```
 #[tactic(auto, using(crate::proofs::Reaching::reaching))]
-pub fn decode<'a, D: DocPlace<'a>>(place: &'a D, program: &'a [u8]) -> Result<D::Doc, Fault>
+pub fn decode<'a, D: DocPlace<'a>>(place: &'a D, program: &'a [u8]) -> Result<D::Doc, ProgramFault>
     ensures ok { IfOk result (λ p. WritesDocument program.now (D.Doc.tree p)) }
     ensures err { IfErr result (λ fault. RefusesProgram fault program.now) }
 {
     let mut reader = Reader { rest: program };
-    let mut entries: Vec<Entry<D::Doc>> = Vec::new(place.memory());
+    let mut entries: Vec<StackEntry<D::Doc>> = Vec::new(place.memory());
     while let Some(instruction) = reader.next()? {
         follow(place, instruction, &mut entries)?;
     }

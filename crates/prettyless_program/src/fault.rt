@@ -1,12 +1,12 @@
 ghost use Rattle.std.specs.Prelude.{◌≡◌};
-ghost use Rattle.prettyless_program.specs.declared.fault.Fault.TheVariants.{Memory};
+ghost use Rattle.prettyless_program.specs.declared.fault.ProgramFault.TheVariants.{Memory};
 
 use prettyless_doc::BuildError;
 use std::alloc::{AllocError, AllocFailed};
 
 /// The error of bytes that were not read as a document.
 #[derive(Clone, Copy, Debug, PartialEq, Eq)]
-pub enum Fault {
+pub enum ProgramFault {
     /// Memory ran out. That says nothing of the bytes.
     Memory,
     /// A byte begins no instruction.
@@ -23,27 +23,27 @@ pub enum Fault {
     Unclosed,
 }
 
-impl From<AllocError> for Fault {
+impl From<AllocError> for ProgramFault {
     ghost from_gives = { λ _ fault. fault ≡ Memory };
 
-    fn from(_error: AllocError) -> Fault {
-        Fault::Memory
+    fn from(_error: AllocError) -> ProgramFault {
+        ProgramFault::Memory
     }
 }
 
-impl<T: Drop> From<AllocFailed<T>> for Fault {
+impl<T: Drop> From<AllocFailed<T>> for ProgramFault {
     ghost from_gives = { λ _ fault. fault ≡ Memory };
 
-    fn from(_error: AllocFailed<T>) -> Fault {
-        Fault::Memory
+    fn from(_error: AllocFailed<T>) -> ProgramFault {
+        ProgramFault::Memory
     }
 }
 
-impl From<BuildError> for Fault {
+impl From<BuildError> for ProgramFault {
     ghost from_gives = { λ _ fault. fault ≡ Memory };
 
     // Nothing here prints a value, so a node is refused only where memory is refused.
-    fn from(_error: BuildError) -> Fault {
-        Fault::Memory
+    fn from(_error: BuildError) -> ProgramFault {
+        ProgramFault::Memory
     }
 }

@@ -11,4 +11,4 @@ mod reader;
 mod stack;
 
 pub use decoding::decode;
-pub use fault::Fault;
+pub use fault::ProgramFault;

@@ -5,9 +5,9 @@ ghost use Rattle.std.specs.Str.{IsUtf8};
 ghost use Rattle.prettyless_program.specs.Faults.{IsTextFault, Stops};
 ghost use Rattle.prettyless_program.specs.Made.{instruction_of};
 ghost use Rattle.prettyless_program.specs.Programs.{CodeItem, IsWritable, number, sized, written};
-ghost use Rattle.prettyless_program.specs.declared.fault.Fault.TheVariants.{Operand};
+ghost use Rattle.prettyless_program.specs.declared.fault.ProgramFault.TheVariants.{Operand};
 
-use crate::fault::Fault;
+use crate::fault::ProgramFault;
 use crate::instruction::{Instruction, Leaf, Words};
 use prettyless_model::choice::{ColumnTest, NestingTest};
 use prettyless_model::kind::{Indenting, Pair, Single};
@@ -39,7 +39,7 @@ impl<'p> Reader<'p> {
 
     /// The length that comes next, in four bytes, the lowest first.
     #[inline(always)]
-    fn length(&mut self) -> Result<usize, Fault>
+    fn length(&mut self) -> Result<usize, ProgramFault>
         ensures ok { IfOk result (λ n. (self.old.rest.now ≡ to_le_bytes w32 n ++ self.new.rest.now) × (n < 2 ^ 32)) }
         ensures err { IfErr result (λ fault. (fault ≡ Operand) × (length self.old.rest.now < 4)) }
     {
@@ -49,13 +49,13 @@ impl<'p> Reader<'p> {
                 self.rest = after;
                 Ok(u32::from_le_bytes([*a, *b, *c, *d]) as usize)
             }
-            _ => Err(Fault::Operand),
+            _ => Err(ProgramFault::Operand),
         }
     }
 
     /// The number that comes next, in eight bytes, the lowest first.
     #[inline(always)]
-    fn number(&mut self) -> Result<usize, Fault>
+    fn number(&mut self) -> Result<usize, ProgramFault>
         ensures ok { IfOk result (λ n. (self.old.rest.now ≡ number n ++ self.new.rest.now) × (n < 2 ^ 64)) }
         ensures err { IfErr result (λ fault. (fault ≡ Operand) × (length self.old.rest.now < 8)) }
     {
@@ -65,13 +65,13 @@ impl<'p> Reader<'p> {
                 self.rest = after;
                 Ok(usize::from_le_bytes([*a, *b, *c, *d, *e, *f, *g, *h]))
             }
-            _ => Err(Fault::Operand),
+            _ => Err(ProgramFault::Operand),
         }
     }
 
     /// The text that comes next, after its length in bytes.
     #[inline(always)]
-    fn text(&mut self) -> Result<&'p str, Fault>
+    fn text(&mut self) -> Result<&'p str, ProgramFault>
         ensures ok { IfOk result (λ s. (self.old.rest.now ≡ sized s.now ++ self.new.rest.now)
             × (length s.now < 2 ^ 32) × IsUtf8 s.now) }
         ensures err { IfErr result (λ fault. IsTextFault fault self.old.rest.now) }
@@ -79,20 +79,20 @@ impl<'p> Reader<'p> {
         let length = self.length()?;
         let rest: &'p [u8] = self.rest;
         if length > rest.len() {
-            return Err(Fault::Operand);
+            return Err(ProgramFault::Operand);
         }
         let (bytes, after) = rest.split_at(length);
         self.rest = after;
         match from_utf8(bytes) {
             Ok(text) => Ok(text),
-            Err(_) => Err(Fault::Text),
+            Err(_) => Err(ProgramFault::Text),
         }
     }
 
     /// The instruction of this code, with the operands that come next.
     #[inline(always)]
     #[tactic(auto, using(crate::proofs::Operands::stopping))]
-    fn instruction(&mut self, code: u8) -> Result<Instruction<'p>, Fault>
+    fn instruction(&mut self, code: u8) -> Result<Instruction<'p>, ProgramFault>
         ensures ok { IfOk result (λ i. (code ∷ self.old.rest.now ≡ written (instruction_of i) ++ self.new.rest.now)
             × IsWritable (instruction_of i)) }
         ensures err { IfErr result (λ fault. (items : List CodeItem) → Stops fault (code ∷ self.old.rest.now) items) }
@@ -127,15 +127,15 @@ impl<'p> Reader<'p> {
             56 => Instruction::on_nesting(NestingTest::AtLeast(self.number()?)),
             64 => Instruction::Open,
             65 => Instruction::Close,
-            _ => return Err(Fault::Instruction),
+            _ => return Err(ProgramFault::Instruction),
         })
     }
 
     /// The instruction that comes next, if the program goes on.
     ///
-    /// A `Fault` says why the bytes there are no instruction. Nothing is promised of the reader then.
+    /// A `ProgramFault` says why the bytes there are no instruction. Nothing is promised of the reader then.
     #[inline(always)]
-    pub fn next(&mut self) -> Result<Option<Instruction<'p>>, Fault>
+    pub fn next(&mut self) -> Result<Option<Instruction<'p>>, ProgramFault>
         ensures ok { IfOk result (λ next. MatchOption next (self.old.rest.now ≡ [])
             (λ i. (self.old.rest.now ≡ written (instruction_of i) ++ self.new.rest.now) × IsWritable (instruction_of i))) }
         ensures err { IfErr result (λ fault. (items : List CodeItem) → Stops fault self.old.rest.now items) }

@@ -4,14 +4,14 @@ ghost use Rattle.prettyless_program.specs.Faults.{HasNoDocument};
 ghost use Rattle.prettyless_program.specs.Made.{entry_item, items_of_entries};
 ghost use Rattle.prettyless_program.specs.Programs as programs;
 ghost use Rattle.prettyless_program.specs.Programs.{gathered};
-ghost use Rattle.prettyless_program.specs.declared.fault.Fault.TheVariants.{Document as NoDocument, Memory};
+ghost use Rattle.prettyless_program.specs.declared.fault.ProgramFault.TheVariants.{Document as NoDocument, Memory};
 
-use crate::fault::Fault;
+use crate::fault::ProgramFault;
 use prettyless_doc::{Doc, DocPlace, DocPtr};
 
 /// A document, or where a sequence was opened.
 #[derive(Drop)]
-pub enum Entry<T> {
+pub enum StackEntry<T> {
     /// A document.
     Document(T),
     /// Where a sequence was opened.
@@ -30,7 +30,7 @@ pub struct Gathered<T> {
 /// Takes the last entry.
 #[inline(always)]
 #[tactic(auto, using(crate::proofs::Items::items_of_push))]
-fn take<'a, T: DocPtr<'a>>(entries: &mut Vec<Entry<T>>) -> Option<Entry<T>>
+fn take<'a, T: DocPtr<'a>>(entries: &mut Vec<StackEntry<T>>) -> Option<StackEntry<T>>
     ensures some { IfSome result (λ e. items_of_entries T.tree entries.old.items ≡ entry_item T.tree e
         ∷ items_of_entries T.tree entries.new.items) }
     ensures none { IfNone result ((items_of_entries T.tree entries.old.items ≡ []) × (items_of_entries T.tree entries.new.items ≡ [])) }
@@ -41,33 +41,33 @@ fn take<'a, T: DocPtr<'a>>(entries: &mut Vec<Entry<T>>) -> Option<Entry<T>>
 
 /// Takes the last document of the innermost open sequence.
 ///
-/// `Fault::Document` where it has none. Nothing is promised of the entries then.
+/// `ProgramFault::Document` where it has none. Nothing is promised of the entries then.
 #[inline(always)]
-pub fn pop<'a, T: DocPtr<'a>>(entries: &mut Vec<Entry<T>>) -> Result<T, Fault>
+pub fn pop<'a, T: DocPtr<'a>>(entries: &mut Vec<StackEntry<T>>) -> Result<T, ProgramFault>
     ensures ok { IfOk result (λ d. items_of_entries T.tree entries.old.items ≡ programs.Document (T.tree d)
         ∷ items_of_entries T.tree entries.new.items) }
     ensures err { IfErr result (λ fault. (fault ≡ NoDocument) × HasNoDocument (items_of_entries T.tree entries.old.items)) }
 {
     match take(entries) {
-        Some(Entry::Document(document)) => Ok(document),
-        _ => Err(Fault::Document),
+        Some(StackEntry::Document(document)) => Ok(document),
+        _ => Err(ProgramFault::Document),
     }
 }
 
 /// Takes the documents of the innermost open sequence, one after the other, and what opened it.
 ///
-/// `Fault::Memory` if memory runs out. Nothing is promised of the entries then.
+/// `ProgramFault::Memory` if memory runs out. Nothing is promised of the entries then.
 pub fn gather<'a, D: DocPlace<'a>>(
     place: &'a D,
-    entries: &mut Vec<Entry<D::Doc>>,
-) -> Result<Gathered<D::Doc>, Fault>
+    entries: &mut Vec<StackEntry<D::Doc>>,
+) -> Result<Gathered<D::Doc>, ProgramFault>
     ensures ok { IfOk result (λ all. gathered (items_of_entries D.Doc.tree entries.old.items)
         ≡ record { tree = D.Doc.tree all.document; opened = all.opened; rest = items_of_entries D.Doc.tree entries.new.items }) }
     ensures err { IfErr result (λ fault. fault ≡ Memory) }
 {
     let mut document = match take(entries) {
-        Some(Entry::Document(document)) => document,
-        Some(Entry::Opened) => return Ok(Gathered {
+        Some(StackEntry::Document(document)) => document,
+        Some(StackEntry::Opened) => return Ok(Gathered {
             document: place.alloc(Doc::Nil)?,
             opened: true,
         }),
@@ -78,8 +78,10 @@ pub fn gather<'a, D: DocPlace<'a>>(
     };
     loop {
         match take(entries) {
-            Some(Entry::Document(before)) => document = place.alloc(Doc::Append(before, document))?,
-            Some(Entry::Opened) => return Ok(Gathered {
+            Some(StackEntry::Document(before)) => document = place.alloc(Doc::Append(
+                before, document,
+            ))?,
+            Some(StackEntry::Opened) => return Ok(Gathered {
                 document,
                 opened: true,
             }),

@@ -1,17 +1,17 @@
 -- The source of a payload.
 use Rattle.std.specs.Prelude.{ℕ, Bool, true, false, List}
 use Rattle.prettyless_text.specs.Source.{source_bytes}
-use Rattle.prettyless_text.specs.declared.multiline.Source.{Source}
-use Rattle.prettyless_text.specs.declared.multiline.Source.TheVariants.{Owned, Borrowed}
+use Rattle.prettyless_text.specs.declared.multiline.MultilineSource.{MultilineSource}
+use Rattle.prettyless_text.specs.declared.multiline.MultilineSource.TheVariants.{Owned, Borrowed}
 use Rattle.prettyless_text.specs.declared.multiline.MultilineTextData.{MultilineTextData}
 
 -- a source in memory of its own
-abbrev is_owned_source : Source → Bool
+abbrev is_owned_source : MultilineSource → Bool
 is_owned_source (Owned c s) = true
 is_owned_source (Borrowed c s) = false
 
 -- P, if the source is borrowed
-abbrev IfBorrowedSource : Source → Type 0 → Type 0
+abbrev IfBorrowedSource : MultilineSource → Type 0 → Type 0
 IfBorrowedSource (Owned c s) P = Unit {0}
 IfBorrowedSource (Borrowed c s) P = P
 

@@ -17,7 +17,7 @@ use std::fmt;
 
 // Where the source of a payload is, with its metrics beside it. It takes 32 bytes.
 #[derive(Drop)]
-enum Source<'a> {
+enum MultilineSource<'a> {
     Owned(CachedMetrics, Box<BoxedStr>),
     Borrowed(CachedMetrics, &'a str),
 }
@@ -25,7 +25,7 @@ enum Source<'a> {
 /// A text that holds LF or CR, with its metrics. It is written byte for byte.
 #[derive(Drop)]
 pub struct MultilineTextData<'a> {
-    source: Source<'a>,
+    source: MultilineSource<'a>,
     ghost broken: { holds_break (source_bytes source) ≡ true },
     ghost measured: { IsCacheOf (cache_of source) (metrics (source_bytes source)) },
 }
@@ -49,9 +49,9 @@ impl<'a> MultilineTextData<'a> {
         let cached = CachedMetrics::new(measure(text.as_str()));
         let source = match text {
             CowStr::Owned(text) => {
-                Source::Owned(cached, Box::new(alloc, text.into_boxed_str())?)
+                MultilineSource::Owned(cached, Box::new(alloc, text.into_boxed_str())?)
             }
-            CowStr::Borrowed(text) => Source::Borrowed(cached, text),
+            CowStr::Borrowed(text) => MultilineSource::Borrowed(cached, text),
         };
         Ok(MultilineTextData { source })
     }
@@ -62,8 +62,8 @@ impl<'a> MultilineTextData<'a> {
         ensures { result ≡ cache_of self.now.source }
     {
         match &self.source {
-            Source::Owned(cached, _) => *cached,
-            Source::Borrowed(cached, _) => *cached,
+            MultilineSource::Owned(cached, _) => *cached,
+            MultilineSource::Borrowed(cached, _) => *cached,
         }
     }
 
@@ -73,8 +73,8 @@ impl<'a> MultilineTextData<'a> {
         ensures broken { holds_break result.now ≡ true }
     {
         match &self.source {
-            Source::Owned(_, text) => text.as_str(),
-            Source::Borrowed(_, text) => text,
+            MultilineSource::Owned(_, text) => text.as_str(),
+            MultilineSource::Borrowed(_, text) => text,
         }
     }
 
@@ -94,7 +94,7 @@ impl<'a> MultilineTextData<'a> {
     pub fn is_owned(&self) -> bool
         ensures { result ≡ is_owned_payload self.now }
     {
-        matches!(self.source, Source::Owned(..))
+        matches!(self.source, MultilineSource::Owned(..))
     }
 
     /// The payload of `source`, a text of the same bytes, which is not measured again.
@@ -104,7 +104,7 @@ impl<'a> MultilineTextData<'a> {
         ensures borrowed { is_owned_payload result ≡ false }
     {
         MultilineTextData {
-            source: Source::Borrowed(self.cached(), source),
+            source: MultilineSource::Borrowed(self.cached(), source),
         }
     }
 
@@ -115,11 +115,11 @@ impl<'a> MultilineTextData<'a> {
         ensures err { IfErr result IsMemory }
     {
         let source = match &self.source {
-            Source::Owned(cached, text) => {
+            MultilineSource::Owned(cached, text) => {
                 let copy = BoxedStr::from_str(alloc, text.as_str())?;
-                Source::Owned(*cached, Box::new(alloc, copy)?)
+                MultilineSource::Owned(*cached, Box::new(alloc, copy)?)
             }
-            Source::Borrowed(cached, text) => Source::Borrowed(*cached, text),
+            MultilineSource::Borrowed(cached, text) => MultilineSource::Borrowed(*cached, text),
         };
         Ok(MultilineTextData { source })
     }
