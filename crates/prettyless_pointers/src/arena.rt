@@ -118,7 +118,7 @@ impl<'a> Arena<'a> {
     /// then counts it.
     ///
     /// ```
-    /// Arena::new(alloc, &bump) // an allocator of nodes, in `bump`
+    /// Arena::new(alloc, &bump) // a place of nodes, in `bump`
     /// ```
     pub fn new(alloc: Global, bump: &'a Bump) -> Self {
         Arena {

@@ -132,7 +132,7 @@ impl BoxAllocator {
     /// An allocator whose boxes and texts will take their memory from `alloc`.
     ///
     /// ```
-    /// BoxAllocator::new(alloc) // an allocator of nodes, each in a box
+    /// BoxAllocator::new(alloc) // a place of nodes, each in a box
     /// ```
     pub fn new(alloc: Global) -> Self {
         BoxAllocator { memory: alloc }

@@ -154,7 +154,7 @@ impl RcAllocator {
     /// An allocator whose nodes and texts will take their memory from `alloc`.
     ///
     /// ```
-    /// RcAllocator::new(alloc) // an allocator of nodes, each in an `Rc`
+    /// RcAllocator::new(alloc) // a place of nodes, each in an `Rc`
     /// ```
     pub fn new(alloc: Global) -> Self {
         RcAllocator { memory: alloc }

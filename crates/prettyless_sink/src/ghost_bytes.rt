@@ -15,11 +15,7 @@ impl Model for GhostBytes {
 }
 
 impl GhostBytes {
-    /// These bytes.
-    ///
-    /// ```
-    /// GhostBytes::of(b"") // nothing was given yet
-    /// ```
+    /// These bytes: none, where nothing was given yet.
     #[inline(always)]
     pub fn of(_bytes: &[u8]) -> GhostBytes
         ensures { result ≡ record { bytes = _bytes.now } }
@@ -28,10 +24,6 @@ impl GhostBytes {
     }
 
     /// These bytes, and then those of a piece.
-    ///
-    /// ```
-    /// given = given.and(piece);
-    /// ```
     #[inline(always)]
     pub fn and(&self, _piece: &[u8]) -> GhostBytes
         ensures { result ≡ record { bytes = self.now.bytes ++ _piece.now } }

@@ -23,10 +23,6 @@ pub fn is_ascii(text: &str) -> bool
 
 /// The columns that a text takes: its bytes if it is ASCII, and else its display width. Whether it is, the caller says by
 /// `ascii`, so that no text is looked through twice.
-///
-/// ```
-/// text_width("你好", false) // 4
-/// ```
 #[inline]
 pub fn text_width(text: &str, ascii: bool) -> usize
     requires { ascii ≡ spec.is_ascii text.now }
