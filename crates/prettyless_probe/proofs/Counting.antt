@@ -20,7 +20,7 @@ use Rattle.prettyless_summary.proofs.Knowing.{Leads, leads}
 use Rattle.prettyless_probe.specs.Reads.{answers_before, by_sums, is_answer, parts_read, probe_reads, read_after, reads, reads_all}
 use Rattle.prettyless_probe.specs.Reads.{reads_below, reads_from, with_below}
 use Rattle.prettyless_probe.specs.Glances.{IsLearned}
-use Rattle.prettyless_probe.specs.declared.probe.Glance.TheVariants.{Nothing}
+use Rattle.prettyless_probe.specs.declared.visit.ProbeStep.TheVariants.{Silent}
 
 -- what is read after one look and then another
 pub after-then : (x : Look) (f : Column → Bool → Look) (g : Column → Bool → ℕ) →
@@ -189,11 +189,11 @@ not_both true b h = h refl
 not_both false b h = refl
 
 -- a document of which nothing is learned begins with no answer, and has no summary
-pub no_answer : (has : Bool) (w i : ℕ) (m : Mode) (d : Tree) (c : Column) (p : Bool) → IsLearned has Nothing w d i m c p
+pub no_answer : (has : Bool) (w i : ℕ) (m : Mode) (d : Tree) (c : Column) (p : Bool) → IsLearned has Silent w d i m c p
     → (IsTrue has → size d < 2 ^ 32) → (has && answers_before w d i m c p) ≡ false
 no_answer has w i m d c p h few = not_both has (answers_before w d i m c p) (λ on. (h on (few on)).before)
 
-pub no_summary : (has : Bool) (w i : ℕ) (m : Mode) (d : Tree) (c : Column) (p : Bool) → IsLearned has Nothing w d i m c p
+pub no_summary : (has : Bool) (w i : ℕ) (m : Mode) (d : Tree) (c : Column) (p : Bool) → IsLearned has Silent w d i m c p
     → (IsTrue has → size d < 2 ^ 32) → (has && has_summary d m) ≡ false
 no_summary has w i m d c p h few = not_both has (has_summary d m) (λ on. (h on (few on)).has)
 

@@ -5,10 +5,11 @@ use Rattle.prettyless_model.specs.Tree.{Tree}
 use Rattle.prettyless_model.specs.Look.{by_mode}
 use Rattle.prettyless_model.specs.declared.mode.Mode.{Mode}
 use Rattle.prettyless_model.specs.declared.mode.Mode.TheVariants.{Break, Flat}
-use Rattle.prettyless_probe.specs.Stack.{Task, make_task}
+use Rattle.prettyless_probe.specs.Stack.{Task, task}
 use Rattle.prettyless_probe.specs.Probing.{TextsAt}
+use Rattle.prettyless_probe.specs.declared.command.Command.{Command}
 use Rattle.prettyless_probe.specs.declared.visit.ProbeStep.{ProbeStep}
-use Rattle.prettyless_probe.specs.declared.visit.ProbeStep.TheVariants.{Answer, Descend, Silent}
+use Rattle.prettyless_probe.specs.declared.visit.ProbeStep.TheVariants.{Answer, Next, Silent}
 use Rattle.prettyless_probe.specs.Texts.{IsTexts, IsTextsIf, ByMode}
 
 until : (m : Mode) (x y : Type 0) → x → y → ByMode m x y
@@ -33,9 +34,9 @@ texts_broken d Break read ts e h = h
 texts_broken d Flat read ts e h = absurd (cc)
 
 -- a document that is its texts is so at each result
-pub texts_at : {N : Type 0} (f : N → Tree) (d : Tree) (a : ProbeStep N) (ts : List Task) → IsTexts d → TextsAt f d a ts
+pub texts_at : {N : Type 0} (f : N → Tree) (d : Tree) (a : ProbeStep (Command N)) (ts : List Task) → IsTexts d → TextsAt f d a ts
 texts_at {N} f d (Answer b) ts h = λ _. h
-texts_at {N} f d (Descend i m n) ts h = texts_known d (make_task i m (f n) ∷ ts) h
+texts_at {N} f d (Next n) ts h = texts_known d (task f n ∷ ts) h
 texts_at {N} f d Silent ts h = texts_known d ts h
 
 -- all that was met flat is still texts, since the node is met in Break

@@ -5,6 +5,7 @@ use Rattle.prettyless_probe.specs.Stack.{Task, nodes}
 use Rattle.prettyless_probe.specs.Probing.{Few, OneLeft, RisesBy, nodes_next}
 use Rattle.prettyless_probe.specs.Reads.{IsFew, RisesTo, reads_all, reads_below, reads_on}
 use Rattle.prettyless_probe.specs.declared.line.ProbeLine.{ProbeLine}
+use Rattle.prettyless_probe.specs.declared.command.Command.{Command}
 use Rattle.prettyless_probe.specs.declared.visit.ProbeStep.{ProbeStep}
 use Rattle.prettyless_probe.specs.declared.stack.Below.{Below}
 
@@ -53,18 +54,18 @@ abbrev pub probe_point : List Task → List Task → ProbeLine → ProbePoint
 probe_point own under line = record { own = own; under = under; line = line }
 
 -- what a probe by sums has still to read, from a result on
-abbrev pub left_at : {N : Type 0} → (N → Tree) → ℕ → ProbeStep N → ProbePoint → ℕ
+abbrev pub left_at : {N : Type 0} → (N → Tree) → ℕ → ProbeStep (Command N) → ProbePoint → ℕ
 left_at f width read at = reads_on f true width read at.own (reads_below true width false at.under) at.line.column at.line.pending
 
 -- What it costs a probe by sums to go on with nothing, from one point to another, where it has this result.
-pub record GoesOnCosts {N : Type 0} (f : N → Tree) (width : ℕ) (sums : List Below) (read : ProbeStep N) (a b : ProbePoint) (old new : ℕ)
+pub record GoesOnCosts {N : Type 0} (f : N → Tree) (width : ℕ) (sums : List Below) (read : ProbeStep (Command N)) (a b : ProbePoint) (old new : ℕ)
     : Type 0 where
   -- No count falls.
   pub rises : old ≤ new
   -- No node is visited twice.
   pub counted : new + (nodes_next f read + (nodes b.own + nodes b.under)) ≤ old + (nodes a.own + nodes a.under)
   -- Where a sum is all that is left, it is read, and nothing is left then.
-  pub few : (before : ProbeStep N) → OneLeft f before a.own a.under sums
+  pub few : (before : ProbeStep (Command N)) → OneLeft f before a.own a.under sums
       → OneLeft f read b.own b.under sums × (b.under ≡ []) × (new ≤ old + 1)
   -- A count stays a count.
   pub fits : old ≤ 2 ^ 64 - 1 → new ≤ 2 ^ 64 - 1

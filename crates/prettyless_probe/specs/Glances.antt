@@ -7,8 +7,8 @@ use Rattle.prettyless_model.specs.declared.mode.Mode.{Mode}
 use Rattle.prettyless_summary.specs.Summary.{Summarizes, has_summary}
 use Rattle.prettyless_summary.specs.declared.summary.Summary.{Summary}
 use Rattle.prettyless_probe.specs.Reads.{answers_before}
-use Rattle.prettyless_probe.specs.declared.probe.Glance.{Glance}
-use Rattle.prettyless_probe.specs.declared.probe.Glance.TheVariants.{Nothing, Sum, Answer}
+use Rattle.prettyless_probe.specs.declared.visit.ProbeStep.{ProbeStep}
+use Rattle.prettyless_probe.specs.declared.visit.ProbeStep.TheVariants.{Answer, Next, Silent}
 
 -- the summary of a document, which has one unless it is too large
 pub record IsSum (s : Summary) (d : Tree) (m : Mode) : Type 0 where
@@ -26,7 +26,7 @@ pub record IsUnknown (width : ℕ) (d : Tree) (i : ℕ) (m : Mode) (c : Column) 
   pub before : answers_before width d i m c p ≡ false
 
 -- what is learned of a document at an indent in a mode, where nodes have summaries or not
-abbrev pub IsLearned : Bool → Glance → ℕ → Tree → ℕ → Mode → Column → Bool → Type 0
-IsLearned has (Sum s) width d i m c p = IsTrue has × IsSum s d m
+abbrev pub IsLearned : Bool → ProbeStep Summary → ℕ → Tree → ℕ → Mode → Column → Bool → Type 0
+IsLearned has (Next s) width d i m c p = IsTrue has × IsSum s d m
 IsLearned has (Answer b) width d i m c p = IsTrue has × IsAnswer b width d i m c p
-IsLearned has Nothing width d i m c p = IsTrue has → size d < 2 ^ 32 → IsUnknown width d i m c p
+IsLearned has Silent width d i m c p = IsTrue has → size d < 2 ^ 32 → IsUnknown width d i m c p

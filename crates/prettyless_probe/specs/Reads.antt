@@ -11,9 +11,10 @@ use Rattle.prettyless_model.specs.declared.mode.Mode.{Mode}
 use Rattle.prettyless_model.specs.declared.mode.Mode.TheVariants.{Break, Flat}
 use Rattle.prettyless_summary.specs.Summary.{has_summary}
 use Rattle.prettyless_summary.specs.Known.{before_choice}
-use Rattle.prettyless_probe.specs.Stack.{Task, make_task, nodes}
+use Rattle.prettyless_probe.specs.Stack.{Task, make_task, nodes, task}
+use Rattle.prettyless_probe.specs.declared.command.Command.{Command}
 use Rattle.prettyless_probe.specs.declared.visit.ProbeStep.{ProbeStep}
-use Rattle.prettyless_probe.specs.declared.visit.ProbeStep.TheVariants.{Answer, Descend, Silent}
+use Rattle.prettyless_probe.specs.declared.visit.ProbeStep.TheVariants.{Answer, Next, Silent}
 
 -- what is read after a look: nothing where it answers
 abbrev pub read_after : Look → (Column → Bool → ℕ) → ℕ
@@ -90,9 +91,9 @@ probe_reads has old width d i m ts c p =
     if has && answers_before width d i m c p then 1 else reads_from (by_sums has old d m) width d i m ts c p
 
 -- what a probe has still to read after the result at a node: of the node that is read next, if there is one, and of the tasks after it
-abbrev pub reads_on : {N : Type 0} → (N → Tree) → Bool → ℕ → ProbeStep N → List Task → (Column → Bool → ℕ) → Column → Bool → ℕ
+abbrev pub reads_on : {N : Type 0} → (N → Tree) → Bool → ℕ → ProbeStep (Command N) → List Task → (Column → Bool → ℕ) → Column → Bool → ℕ
 reads_on f sums width (Answer b) ts next c p = 0
-reads_on f sums width (Descend i m n) ts next c p = reads_all sums width (make_task i m (f n) ∷ ts) next c p
+reads_on f sums width (Next n) ts next c p = reads_all sums width (task f n ∷ ts) next c p
 reads_on f sums width Silent ts next c p = reads_all sums width ts next c p
 
 -- what is read from a node on, if there is one

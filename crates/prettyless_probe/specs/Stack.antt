@@ -23,6 +23,10 @@ pub record Task : Type 0 where
 abbrev pub make_task : ℕ → Mode → Tree → Task
 make_task i m d = record { indent = i; mode = m; tree = d }
 
+-- a command of these parts
+abbrev pub make_command : {N : Type 0} → ℕ → Mode → N → Command N
+make_command i m n = record { indent = i; mode = m; node = n }
+
 -- a command as a task
 abbrev pub task : {N : Type 0} → (N → Tree) → Command N → Task
 task f c = make_task c.indent c.mode (f c.node)

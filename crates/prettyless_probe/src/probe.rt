@@ -21,7 +21,7 @@ use crate::command::Command;
 use crate::line::{LineState, ProbeLine, read_line_end};
 use crate::stack::{Cursor, Stack};
 use crate::summed::{visit_by_parts, visit_by_sums};
-use crate::visit::{FrameStep, visit_one};
+use crate::visit::{ProbeStep, visit_one};
 use crate::walk::Walk;
 use prettyless_model::count::one_more;
 use prettyless_model::mode::Mode;
@@ -65,6 +65,10 @@ fn next_unread<N: Walk>(
 }
 
 /// What a probe finds of a node: it goes past the width, it stays within the width, or it does and is its texts where it is laid flat.
+///
+/// Texts that fit have a way of their own. A probe finds them (`FitsAsTexts`), as it reads the node. A step hands them on
+/// (`StepResult::DescendTexts`). A printer lays them in a loop without frames, modes and tests of the width (`lay_texts`), with room for
+/// as many nodes as the probe's stack had: so no memory is asked for once a byte of them is written.
 #[derive(Clone, Copy)]
 pub enum Fit {
     Exceeds,
@@ -120,11 +124,11 @@ fn visit_all<N: Walk>(
     'read: loop {
         *probes = one_more(*probes);
         match visit_one(width, &mut line, node, stack, &mut is_texts)? {
-            FrameStep::Answer(answer) => return Ok(found(answer, is_texts)),
-            FrameStep::Descend(next) => {
+            ProbeStep::Answer(answer) => return Ok(found(answer, is_texts)),
+            ProbeStep::Next(next) => {
                 node = next;
             }
-            FrameStep::Silent => {
+            ProbeStep::Silent => {
                 let Some(next) = next_unread(commands, &mut below, stack)? else {
                     return Ok(found(read_line_end(width, &line.get(), Mode::Break), is_texts));
                 };
@@ -138,29 +142,20 @@ fn visit_all<N: Walk>(
 // than to read it.
 const PARTS_READ: u64 = 1_000;
 
-// What a probe learns of a node before it reads it.
-#[derive(Clone, Copy)]
-enum Glance {
-    Nothing,
-    // the summary of the node
-    Sum(Summary),
-    // the answer of what the node begins with
-    Answer(bool),
-}
-
-// What a probe learns of a node by what is known of it, where nodes have summaries.
+// What a probe learns of a node before it reads it, where nodes have summaries: the answer of what the node begins with, or the summary
+// that is read in place of the node.
 #[inline(always)]
-fn learn<N: Walk>(width: usize, line: ProbeLine, node: &N, mode: Mode) -> Glance
+fn learn<N: Walk>(width: usize, line: ProbeLine, node: &N, mode: Mode) -> ProbeStep<Summary>
     ensures { (i : ℕ) → IsLearned N.HAS_SUMMARIES result width (N.tree node.now) i mode line.column line.pending }
 {
     if !N::has_summaries() {
-        return Glance::Nothing;
+        return ProbeStep::Silent;
     }
     match node.known(mode) {
-        Known::Whole(summary) => Glance::Sum(summary),
+        Known::Whole(summary) => ProbeStep::Next(summary),
         Known::Begins(summary) => match summary.read(width, line.column, line.pending) {
-            ReadResult::Answer(answer) => Glance::Answer(answer),
-            ReadResult::Line(_, _) => Glance::Nothing,
+            ReadResult::Answer(answer) => ProbeStep::Answer(answer),
+            ReadResult::Line(_, _) => ProbeStep::Silent,
         },
     }
 }
@@ -202,15 +197,15 @@ pub fn probe<N: Walk>(
     stack.clear();
     let below = commands.cursor();
     match learn(width, start, &node, mode) {
-        Glance::Sum(summary) => {
+        ProbeStep::Next(summary) => {
             let fits = visit_by_sums(width, start, summary, commands, below, stack, probes)?;
             return Ok(found(fits, false));
         }
-        Glance::Answer(fits) => {
+        ProbeStep::Answer(fits) => {
             *probes = one_more(*probes);
             return Ok(found(fits, false));
         }
-        Glance::Nothing => {}
+        ProbeStep::Silent => {}
     }
     let first = Command { indent, mode, node };
     if reads_parts::<N>(*probes) {

@@ -24,7 +24,7 @@ use std::alloc::AllocError;
 
 // Reads on by a summary.
 #[inline(always)]
-fn read_by<N: Walk>(width: usize, line: &mut ProbeLine, summary: Summary) -> ProbeStep<N>
+fn read_by<N: Walk>(width: usize, line: &mut ProbeLine, summary: Summary) -> ProbeStep<Command<N>>
     ensures answer { (ts : List Task) → ReadsAs N.tree width result
         (answer_of (look_by width summary line.old.column line.old.pending) (λ c p. tasks_fit width ts c p))
         ts line.new.column line.new.pending }
@@ -54,7 +54,7 @@ fn read_one<N: Walk>(
     mode: Mode,
     node: N,
     stack: &mut Stack<N>,
-) -> Result<ProbeStep<N>, AllocError>
+) -> Result<ProbeStep<Command<N>>, AllocError>
     ensures answer { IfOk result (λ a. (ts : List Task) → ReadsAs N.tree width a
         (tasks_fit width (make_task indent mode (N.tree node) ∷ (stack_of N.tree stack.old ++ ts)) line.old.column line.old.pending)
         (stack_of N.tree stack.new ++ ts) line.new.column line.new.pending) }
@@ -80,7 +80,7 @@ fn read_on<N: Walk>(
     below: &mut Cursor,
     stack: &mut Stack<N>,
     probes: &mut u64,
-) -> ProbeStep<N>
+) -> ProbeStep<Command<N>>
     requires of_this { IsCursor commands.now below.old }
     requires summed { AreSums commands.now.sums.items (unread N.tree commands.now below.old) }
     ensures of_this { IsCursor commands.now below.new }
@@ -96,7 +96,7 @@ fn read_on<N: Walk>(
         (probe_point (stack_of N.tree stack.new) (unread N.tree commands.now below.new) line.new) probes.old probes.new }
 {
     if let Some(next) = stack.pop() {
-        return ProbeStep::Descend(next.indent, next.mode, next.node);
+        return ProbeStep::Next(next);
     }
     if let Some(sum) = commands.sum_of(below) {
         *probes = one_more(*probes);
@@ -104,7 +104,11 @@ fn read_on<N: Walk>(
         return read_by(width, line, sum.sum);
     }
     match commands.read_down(below) {
-        Some(next) => ProbeStep::Descend(next.indent, Mode::Break, next.node),
+        Some(next) => ProbeStep::Next(Command {
+            indent: next.indent,
+            mode: Mode::Break,
+            node: next.node,
+        }),
         None => ProbeStep::Answer(line.column.padding_fits(width, line.pending)),
     }
 }
@@ -116,7 +120,7 @@ fn read_on<N: Walk>(
 fn read_rest<N: Walk>(
     width: usize,
     start: ProbeLine,
-    first: ProbeStep<N>,
+    first: ProbeStep<Command<N>>,
     commands: &Stack<N>,
     cursor: Cursor,
     stack: &mut Stack<N>,
@@ -140,9 +144,9 @@ fn read_rest<N: Walk>(
     'read: loop {
         read = match read {
             ProbeStep::Answer(answer) => return Ok(answer),
-            ProbeStep::Descend(indent, mode, node) => {
+            ProbeStep::Next(next) => {
                 *probes = one_more(*probes);
-                read_one(width, &mut line, indent, mode, node, stack)?
+                read_one(width, &mut line, next.indent, next.mode, next.node, stack)?
             }
             ProbeStep::Silent => read_on(width, &mut line, commands, &mut below, stack, probes),
         };

@@ -3,15 +3,15 @@
 ghost use Rattle.std.specs.Prelude.{◌≡◌, ◌++◌, ◌∷◌, ◌+◌, ◌<◌, ◌≤◌, ◌&&◌, IfOk, OnOk, IsTrue, List, Bool, ℕ, false, if◌then◌else◌};
 ghost use Rattle.prettyless_model.specs.Tree.{Tree, size};
 ghost use Rattle.prettyless_model.specs.declared.column.Column.{Column};
-ghost use Rattle.prettyless_probe.specs.declared.visit.ProbeStep.TheVariants.{Answer, Silent};
+ghost use Rattle.prettyless_probe.specs.declared.visit.ProbeStep.TheVariants.{Answer, Next, Silent};
 ghost use Rattle.prettyless_probe.specs.Probing.{ReadsAs, RoomAt, TextsAt, nodes_next, read_in};
 ghost use Rattle.prettyless_probe.specs.Reads.{reads_all, reads_on};
-ghost use Rattle.prettyless_probe.specs.Stack.{Task, make_task, nodes, room_of, stack_of, tasks_fit, with_next};
+ghost use Rattle.prettyless_probe.specs.Stack.{Task, make_command, make_task, nodes, room_of, stack_of, tasks_fit, with_next};
 ghost use Rattle.prettyless_probe.specs.Texts.{IsTextsIf, tasks_waiting};
 ghost use Rattle.prettyless_summary.specs.Summary.{has_summary};
 
 use crate::choice::{by_column, by_nesting, either};
-use crate::command::nested_indent;
+use crate::command::{Command, nested_indent};
 use crate::line::{LineState, ProbeLine, read_content, read_line_end, read_payload};
 use crate::stack::Stack;
 use crate::walk::{View, Walk};
@@ -20,19 +20,19 @@ use prettyless_model::kind::{Indenting, Pair, Single};
 use prettyless_model::mode::Mode;
 use std::alloc::AllocError;
 
-/// The result of a probe at one node: an answer, the node that it reads next, or neither.
+/// What a probe knows once it has read something: an answer, what it reads next, or neither.
 #[derive(Clone, Copy)]
-pub enum ProbeStep<N> {
+pub enum ProbeStep<T> {
     /// Whether the line stays within the width.
     Answer(bool),
-    /// A node, with its indent and its mode.
-    Descend(usize, Mode, N),
+    /// A node, of the topmost frame or with its own indent and mode; or a summary.
+    Next(T),
     Silent,
 }
 
 // A line that stays within the width, or none.
 #[inline(always)]
-fn done<N>(within: bool) -> ProbeStep<N>
+fn done<T>(within: bool) -> ProbeStep<T>
     ensures { result ≡ if within then Silent else Answer false }
 {
     if within {
@@ -40,6 +40,14 @@ fn done<N>(within: bool) -> ProbeStep<N>
     } else {
         ProbeStep::Answer(false)
     }
+}
+
+// A node that is read next, with its indent and its mode.
+#[inline(always)]
+fn next_at<N>(indent: usize, mode: Mode, node: N) -> ProbeStep<Command<N>>
+    ensures { result ≡ Next (make_command indent mode node) }
+{
+    ProbeStep::Next(Command { indent, mode, node })
 }
 
 // Reads one node. The nodes below it are read next: the first is answered, and a second one is now on the stack.
@@ -52,7 +60,7 @@ pub(crate) fn probe_one<N: Walk>(
     mode: Mode,
     node: N,
     stack: &mut Stack<N>,
-) -> Result<ProbeStep<N>, AllocError>
+) -> Result<ProbeStep<Command<N>>, AllocError>
     ensures answer { IfOk result (λ a. (ts : List Task) → ReadsAs N.tree width a
         (tasks_fit width (make_task indent mode (N.tree node) ∷ (stack_of N.tree stack.old ++ ts)) line.old.column line.old.pending)
         (stack_of N.tree stack.new ++ ts) line.new.column line.new.pending) }
@@ -87,46 +95,36 @@ pub(crate) fn probe_one<N: Walk>(
             line.pending = true;
             Ok(ProbeStep::Silent)
         }
-        View::One(Single::Indented(how), inner) => Ok(ProbeStep::Descend(
+        View::One(Single::Indented(how), inner) => Ok(next_at(
             how.indent(indent, line.column),
             mode,
             inner,
         )),
-        View::One(Single::Group, inner) => Ok(ProbeStep::Descend(indent, mode, inner)),
-        View::One(Single::Flatten, inner) => Ok(ProbeStep::Descend(indent, Mode::Flat, inner)),
+        View::One(Single::Group, inner) => Ok(next_at(indent, mode, inner)),
+        View::One(Single::Flatten, inner) => Ok(next_at(indent, Mode::Flat, inner)),
         View::Two(Pair::Append, first, second) => {
             stack.put(indent, mode, second)?;
-            Ok(ProbeStep::Descend(indent, mode, first))
+            Ok(next_at(indent, mode, first))
         }
-        View::Two(Pair::BreakOrFlat, broken, flat) => Ok(ProbeStep::Descend(
+        View::Two(Pair::BreakOrFlat, broken, flat) => Ok(next_at(
             indent,
             mode,
             either(mode, broken, flat),
         )),
         View::Two(Pair::Union | Pair::PartialUnion, first, second) => {
-            Ok(ProbeStep::Descend(indent, mode, either(mode, second, first)))
+            Ok(next_at(indent, mode, either(mode, second, first)))
         }
         View::Two(Pair::Chosen(ChoiceTest::OnColumn(test)), first, second) => {
-            Ok(ProbeStep::Descend(
+            Ok(next_at(
                 indent,
                 mode,
                 by_column(test, line.column, indent, first, second),
             ))
         }
         View::Two(Pair::Chosen(ChoiceTest::OnNesting(test)), first, second) => {
-            Ok(ProbeStep::Descend(indent, mode, by_nesting(test, indent, first, second)))
+            Ok(next_at(indent, mode, by_nesting(test, indent, first, second)))
         }
     }
-}
-
-/// The result of a probe at one node, where the topmost frame of its stack is that of the node it reads.
-#[derive(Clone, Copy)]
-pub(crate) enum FrameStep<N> {
-    /// Whether the line stays within the width.
-    Answer(bool),
-    /// A node of the topmost frame.
-    Descend(N),
-    Silent,
 }
 
 // Reads one node that probes seldom meet. It is not copied into their loop, whose registers are for other nodes.
@@ -137,7 +135,7 @@ fn visit_other<N: Walk>(
     line: &mut ProbeLine,
     node: N,
     stack: &mut Stack<N>,
-) -> Result<FrameStep<N>, AllocError>
+) -> Result<ProbeStep<N>, AllocError>
     ensures answer { IfOk result (λ a. (ts : List Task) → ReadsAs N.tree width (read_in stack.new a)
         (tasks_fit width (with_next N.tree node stack.old ++ ts) line.old.column line.old.pending)
         (stack_of N.tree stack.new ++ ts) line.new.column line.new.pending) }
@@ -151,12 +149,12 @@ fn visit_other<N: Walk>(
     let indent = stack.indent_in();
     let mode = stack.mode_in();
     match probe_one(width, line, indent, mode, node, stack)? {
-        ProbeStep::Answer(answer) => Ok(FrameStep::Answer(answer)),
-        ProbeStep::Descend(next_indent, next_mode, next) => {
-            stack.enter(next_indent, next_mode)?;
-            Ok(FrameStep::Descend(next))
+        ProbeStep::Answer(answer) => Ok(ProbeStep::Answer(answer)),
+        ProbeStep::Next(next) => {
+            stack.enter(next.indent, next.mode)?;
+            Ok(ProbeStep::Next(next.node))
         }
-        ProbeStep::Silent => Ok(FrameStep::Silent),
+        ProbeStep::Silent => Ok(ProbeStep::Silent),
     }
 }
 
@@ -169,7 +167,7 @@ pub(crate) fn visit_one<N: Walk>(
     node: N,
     stack: &mut Stack<N>,
     is_texts: &mut bool,
-) -> Result<FrameStep<N>, AllocError>
+) -> Result<ProbeStep<N>, AllocError>
     ensures answer { IfOk result (λ a. (ts : List Task) → ReadsAs N.tree width (read_in stack.new a)
         (tasks_fit width (with_next N.tree node stack.old ++ ts) line.old.column line.old.pending)
         (stack_of N.tree stack.new ++ ts) line.new.column line.new.pending) }
@@ -187,33 +185,33 @@ pub(crate) fn visit_one<N: Walk>(
     match node.view() {
         View::Two(Pair::Append, first, second) => {
             stack.put_in(second)?;
-            Ok(FrameStep::Descend(first))
+            Ok(ProbeStep::Next(first))
         }
         View::Text(s) => {
             if line.read_text(width, s) {
-                Ok(FrameStep::Silent)
+                Ok(ProbeStep::Silent)
             } else {
-                Ok(FrameStep::Answer(false))
+                Ok(ProbeStep::Answer(false))
             }
         }
-        View::Two(Pair::BreakOrFlat, broken, flat) => Ok(FrameStep::Descend(either(
+        View::Two(Pair::BreakOrFlat, broken, flat) => Ok(ProbeStep::Next(either(
             stack.mode_in(),
             broken,
             flat,
         ))),
         View::One(Single::Indented(Indenting::Nest(offset)), inner) => {
             stack.enter(nested_indent(stack.indent_in(), offset), stack.mode_in())?;
-            Ok(FrameStep::Descend(inner))
+            Ok(ProbeStep::Next(inner))
         }
-        View::One(Single::Group, inner) => Ok(FrameStep::Descend(inner)),
-        View::HardLine => Ok(FrameStep::Answer(read_line_end(width, &line.get(), stack.mode_in()))),
-        View::Nil => Ok(FrameStep::Silent),
+        View::One(Single::Group, inner) => Ok(ProbeStep::Next(inner)),
+        View::HardLine => Ok(ProbeStep::Answer(read_line_end(width, &line.get(), stack.mode_in()))),
+        View::Nil => Ok(ProbeStep::Silent),
         // Where nodes have no summaries, choices are seldom met, and documents without one took a twelfth longer with this arm.
         View::Two(Pair::Chosen(ChoiceTest::OnColumn(test)), first, second) if N::has_summaries() =>
             {
                 *is_texts = either(stack.mode_in(), *is_texts, false);
                 let column = line.get().column;
-                Ok(FrameStep::Descend(by_column(test, column, stack.indent_in(), first, second)))
+                Ok(ProbeStep::Next(by_column(test, column, stack.indent_in(), first, second)))
             }
         // One that is met flat is no text.
         _ => {

@@ -20,27 +20,27 @@ pub visit_by_parts-requires-clause-summed : goal.visit_by_parts-requires-clause-
 visit_by_parts-requires-clause-summed g c =
     subst (λ (ts : List Task). AreSums c.args.commands.now.sums.items ts) (sym c.cursor-below.ensures.unread) c.requires.sums
 
-pub returns-in-Sum-clause-answer : goal.returns-in-Sum-clause-answer
-returns-in-Sum-clause-answer g c =
+pub returns-in-Next-clause-answer : goal.returns-in-Next-clause-answer
+returns-in-Next-clause-answer g c =
     let f = g.N.Walk.tree in
     let s = c.args.commands.now in
     let line = c.args.start in
     ap is_fit c.found.ensures
     ∙ fit_found _
-    ∙ c.in_ok-fits-in-Sum.ensures.answer
-    ∙ summary_fits c.args.width c.args.indent c.args.mode c.in-Sum.summary (f c.args.node) (stack_of f c.clear.new.self)
-    (unread f s c.cursor-below.result) (stack_of f s) line.column line.pending (c.in-Sum.ensures c.args.indent).1.known c.clear.ensures
+    ∙ c.in_ok-fits-in-Next.ensures.answer
+    ∙ summary_fits c.args.width c.args.indent c.args.mode c.in-Next.summary (f c.args.node) (stack_of f c.clear.new.self)
+    (unread f s c.cursor-below.result) (stack_of f s) line.column line.pending (c.in-Next.ensures c.args.indent).1.known c.clear.ensures
     c.cursor-below.ensures.unread
 
-pub returns-in-Sum-clause-visits : goal.returns-in-Sum-clause-visits
-returns-in-Sum-clause-visits g c =
+pub returns-in-Next-clause-visits : goal.returns-in-Next-clause-visits
+returns-in-Next-clause-visits g c =
     let f = g.N.Walk.tree in
     let has = g.N.Walk.HAS_SUMMARIES in
     let d = f c.args.node in
     let s = c.args.commands.now in
     let line = c.args.start in
     let same = c.cursor-below.ensures.unread in
-    let sum = c.in-Sum.ensures c.args.indent in
+    let sum = c.in-Next.ensures c.args.indent in
     let on = sum.0 in
     let long = long_all has (length s.sums.items) (length s.nodes.items) on c.requires.long in
     let under : length (unread f s c.cursor-below.result) ≤ length s.sums.items =
@@ -49,29 +49,29 @@ returns-in-Sum-clause-visits g c =
     let size = size_positive d in
     let exact = λ (few : IsFew has d (stack_of f s)).
     subst (λ (k : ℕ). RisesTo k c.args.probes.now c.visit_by_sums.new.probes)
-    (reads_by_summary has c.args.probes.now c.args.width c.args.indent c.args.mode c.in-Sum.summary d (stack_of f c.clear.new.self)
+    (reads_by_summary has c.args.probes.now c.args.width c.args.indent c.args.mode c.in-Next.summary d (stack_of f c.clear.new.self)
     (unread f s c.cursor-below.result) (stack_of f s) line.column line.pending on (sum.1.has (omega (arith, few on))) sum.1.known
     c.clear.ensures same)
-    (c.in_ok-fits-in-Sum.ensures.visits.reads
+    (c.in_ok-fits-in-Next.ensures.visits.reads
     (record { on = on; long = under; small = omega (arith, few on, ap nodes same, ap nodes c.clear.ensures, size) })) in
     record {
       rises = part.rises;
       counted = omega (arith, part.counted, ap nodes same, ap nodes c.clear.ensures, size);
-      asked = c.in_ok-fits-in-Sum.ensures.visits.asked;
+      asked = c.in_ok-fits-in-Next.ensures.visits.asked;
       few = λ all. c.visit_by_sums.ensures.few c.clear.ensures under (subst (λ (ts : List Task). HaveSum ts) (sym same) all.below);
       reads = exact;
       reads_at_most = λ few. omega (arith, exact few);
     }
 
-pub returns-in_err-fits-in-Sum-clause-visits : goal.returns-in_err-fits-in-Sum-clause-visits
-returns-in_err-fits-in-Sum-clause-visits g c =
+pub returns-in_err-fits-in-Next-clause-visits : goal.returns-in_err-fits-in-Next-clause-visits
+returns-in_err-fits-in-Next-clause-visits g c =
     let f = g.N.Walk.tree in
     let has = g.N.Walk.HAS_SUMMARIES in
     let d = f c.args.node in
     let s = c.args.commands.now in
     let line = c.args.start in
     let same = c.cursor-below.ensures.unread in
-    let sum = c.in-Sum.ensures c.args.indent in
+    let sum = c.in-Next.ensures c.args.indent in
     let on = sum.0 in
     let long = long_all has (length s.sums.items) (length s.nodes.items) on c.requires.long in
     let under : length (unread f s c.cursor-below.result) ≤ length s.sums.items =
@@ -85,7 +85,7 @@ returns-in_err-fits-in-Sum-clause-visits g c =
       few = λ all. c.visit_by_sums.ensures.few c.clear.ensures under (subst (λ (ts : List Task). HaveSum ts) (sym same) all.below);
       reads = λ few. search rules;
       reads_at_most = λ few. subst (λ (k : ℕ). c.visit_by_sums.new.probes ≤ c.args.probes.now + k)
-          (reads_by_summary has c.args.probes.now c.args.width c.args.indent c.args.mode c.in-Sum.summary d (stack_of f c.clear.new.self)
+          (reads_by_summary has c.args.probes.now c.args.width c.args.indent c.args.mode c.in-Next.summary d (stack_of f c.clear.new.self)
           (unread f s c.cursor-below.result) (stack_of f s) line.column line.pending on (sum.1.has (omega (arith, few on))) sum.1.known
           c.clear.ensures same)
           (part.reads_at_most
@@ -100,7 +100,7 @@ returns-then-reads_parts-clause-visits g c =
     let s = c.args.commands.now in
     let line = c.args.start in
     let same = c.cursor-below.ensures.unread in
-    let none = c.in-Nothing.ensures c.args.indent in
+    let none = c.in-Silent.ensures c.args.indent in
     let some : (has && nat_lt c.args.probes.now parts_read) ≡ true = cc in
     let on = only_first has (nat_lt c.args.probes.now parts_read) some in
     let long = long_all has (length s.sums.items) (length s.nodes.items) on c.requires.long in
@@ -132,7 +132,7 @@ returns-in_err-within-clause-visits g c =
     let s = c.args.commands.now in
     let line = c.args.start in
     let same = c.cursor-below.ensures.unread in
-    let none = c.in-Nothing.ensures c.args.indent in
+    let none = c.in-Silent.ensures c.args.indent in
     let some : (has && nat_lt c.args.probes.now parts_read) ≡ true = cc in
     let on = only_first has (nat_lt c.args.probes.now parts_read) some in
     let long = long_all has (length s.sums.items) (length s.nodes.items) on c.requires.long in
@@ -164,7 +164,7 @@ returns-clause-visits g c =
     let s = c.args.commands.now in
     let line = c.args.start in
     let same = c.cursor-below.ensures.unread in
-    let none = c.in-Nothing.ensures c.args.indent in
+    let none = c.in-Silent.ensures c.args.indent in
     let part = c.visit_all-fit.ensures.visits in
     let many : (has && nat_lt c.args.probes.now parts_read) ≡ false = cc in
     let same_reads = λ (few : IsFew has d (stack_of f s)).
