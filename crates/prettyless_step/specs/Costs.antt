@@ -6,13 +6,15 @@ use Rattle.prettyless_model.specs.Layout.{State}
 use Rattle.prettyless_model.specs.declared.mode.Mode.{Mode}
 use Rattle.prettyless_model.specs.declared.options.RenderOptions.{RenderOptions}
 use Rattle.prettyless_sink.specs.declared.visits.Visits.{Visits}
+use Rattle.prettyless_probe.specs.Costs.{ProbeCosts}
 use Rattle.prettyless_probe.specs.Probing as probing
 use Rattle.prettyless_probe.specs.Probing.{Few, RisesBy}
 use Rattle.prettyless_probe.specs.Reads.{IsFew, RisesTo}
 use Rattle.prettyless_probe.specs.Stack.{Task, nodes}
 use Rattle.prettyless_step.specs.Steps.{counted_payload, rejects_payload}
-use Rattle.prettyless_step.specs.Printing.{IsStepped, IsSteppedOrRefused, IsStopped}
-use Rattle.prettyless_step.specs.Reads.{step_reads}
+use Rattle.prettyless_step.specs.Printing.{IsStepped, IsSteppedOrRefused, IsStopped, state_of, tasks_of}
+use Rattle.prettyless_step.specs.Reads.{reads_here, step_reads}
+use Rattle.prettyless_step.specs.declared.printer.Printer.{Printer}
 use Rattle.prettyless_step.specs.declared.printer.StepResult.{StepResult}
 
 -- What the visit of a document at an indent in a mode costs, before tasks and in a state, where probes are not to pass a limit. Nodes have
@@ -38,3 +40,13 @@ pub record StepCosts {N E : Type 0} (result : Result (StepResult N) E) (has : Bo
       → IfOk result (λ taken. IsStepped taken → RisesTo (step_reads has old.probes o d i m ts st) old.probes new.probes)
   -- Where it was not, no more are.
   pub reads_at_most : IsFew has d ts → new.probes ≤ old.probes + step_reads has old.probes o d i m ts st
+
+-- the same where the printer stands
+abbrev pub StepCostsHere : {N E : Type 0} → (N → Tree) → Result (StepResult N) E → Bool → Tree → ℕ → Mode → Printer N → ℕ → Visits → Visits
+    → Type 0
+StepCostsHere f result has d i m p limit old new = StepCosts result has p.options d i m (tasks_of f p) (state_of f p) limit old new
+
+-- what a probe of a document at an indent in a mode costs there
+abbrev pub ProbeCostsHere : {N T E : Type 0} → (N → Tree) → Result T E → Bool → Tree → ℕ → Mode → Printer N → ℕ → ℕ → Type 0
+ProbeCostsHere f result has d i m p old new =
+    ProbeCosts result has d (tasks_of f p) (reads_here has old p.options d i m (tasks_of f p) (state_of f p)) old new

@@ -1,12 +1,12 @@
 -- The printer's state as the definitions see it, and what a step of the code shows of the step that is defined.
-use Rattle.std.specs.Prelude.{◌≡◌, ◌≤◌, ℕ, List, [], ◌∷◌, ◌++◌, drop, false, true, Result, Ok, Err}
+use Rattle.std.specs.Prelude.{◌≡◌, ◌≤◌, ℕ, List, [], ◌∷◌, ◌++◌, drop, false, true, Result, Ok, Err, IfOk}
 use Rattle.prettyless_model.specs.Tree.{Tree}
 use Rattle.prettyless_model.specs.Layout.{State, Entry, some_pending}
 use Rattle.prettyless_model.specs.declared.mode.Mode.{Mode}
 use Rattle.prettyless_model.specs.declared.mode.Mode.TheVariants.{Flat}
 use Rattle.prettyless_probe.specs.Stack.{Task, make_task, follow, room_of, stack_of, trees}
 use Rattle.prettyless_probe.specs.Texts.{IsTexts, texts_waiting}
-use Rattle.prettyless_step.specs.Steps.{Step, Move, Stuck, Choose}
+use Rattle.prettyless_step.specs.Steps.{Step, Move, Stuck, Choose, break_step, step_of}
 use Rattle.prettyless_step.specs.Piece.{piece_bytes}
 use Rattle.prettyless_step.specs.declared.printer.Printer.{Printer}
 use Rattle.prettyless_step.specs.declared.printer.StepResult.{StepResult}
@@ -59,6 +59,19 @@ Shows f m Failed (Move b pushed u) p q = ⊥
 Shows f m Failed (Choose j x y) p q = ⊥
 Shows f m (Choice i l r) (Move b pushed u) p q = ⊥
 Shows f m (Choice i l r) Stuck p q = ⊥
+
+-- unless memory is refused, what the code answers to a document at an indent in a mode is the step of the document
+abbrev pub TakesStep : {N E : Type 0} → (N → Tree) → Result (StepResult N) E → Tree → ℕ → Mode → Printer N → Printer N → Type 0
+TakesStep f result d i m p q =
+    IfOk result (λ taken. Shows f m taken (step_of p.options d i m (following f p) (state_of f p)) p q)
+
+-- the step of a document that is a break, where no flat line refuses the break
+abbrev pub break_here : {N : Type 0} → (N → Tree) → Tree → ℕ → Mode → Printer N → Step
+break_here f d i m p = break_step p.options (state_of f p).pending d i m (following f p) (state_of f p)
+
+-- unless memory is refused, what the code answers is that step
+abbrev pub TakesBreak : {N E : Type 0} → (N → Tree) → Result (StepResult N) E → Tree → ℕ → Mode → Printer N → Printer N → Type 0
+TakesBreak f result d i m p q = IfOk result (λ taken. Shows f m taken (break_here f d i m p) p q)
 
 -- the step was not taken, since probes are past their limit
 abbrev pub IsStopped : {N : Type 0} → StepResult N → Type 0

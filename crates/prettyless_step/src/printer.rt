@@ -29,7 +29,7 @@ pub enum StepResult<'v, N> {
     Silent,
     Descend(usize, N),
     DescendFlat(usize, N),
-    /// A node that is laid flat, as its texts. The probe's list had room for all nodes of it that wait.
+    /// A node that is laid flat, as its texts: a probe found `Fit::FitsAsTexts`.
     DescendTexts(usize, N),
     Emit(Piece<'v>),
     Failed,

@@ -1,18 +1,16 @@
 //! What the visit of one node does.
 //! This file knows nodes by `Walk` alone, and no trials and no sink. Only here are probes started.
 ghost use Rattle.std.specs.Prelude.{◌≡◌, ◌≤◌, ◌<◌, ◌^◌, ◌&&◌, false, true, IfOk, IsFalse, IsTrue, OnOk};
-ghost use Rattle.prettyless_model.specs.Tree.{Group, PartialUnion};
+ghost use Rattle.prettyless_model.specs.Tree.{Group, PartialUnion, Union};
 ghost use Rattle.prettyless_model.specs.Content.{suffix_depth};
 ghost use Rattle.prettyless_model.specs.Layout.{is_suppressed, lay_ending, some_pending, next_indent, probe as probe_of};
 ghost use Rattle.prettyless_model.specs.declared.mode.Mode.TheVariants.{Break, Flat};
 ghost use Rattle.prettyless_probe.specs.Stack.{room_of};
-ghost use Rattle.prettyless_step.specs.Steps.{at_once, break_step, counted_payload, decided_by_metrics, is_rejected, step_of, union_step};
+ghost use Rattle.prettyless_step.specs.Steps.{at_once, counted_payload, decided_by_metrics, is_rejected};
 ghost use Rattle.prettyless_step.specs.Piece.{piece_bytes};
-ghost use Rattle.prettyless_step.specs.Printing.{IsStopped, Shows, StartStays, Writes, following, state_of, tasks_of};
-ghost use Rattle.prettyless_probe.specs.Costs.{ProbeCosts};
+ghost use Rattle.prettyless_step.specs.Printing.{IsStopped, StartStays, TakesBreak, TakesStep, Writes, break_here, following, state_of};
 ghost use Rattle.prettyless_probe.specs.Probing.{is_fit};
-ghost use Rattle.prettyless_step.specs.Costs.{StepCosts};
-ghost use Rattle.prettyless_step.specs.Reads.{reads_here};
+ghost use Rattle.prettyless_step.specs.Costs.{ProbeCostsHere, StepCostsHere};
 ghost use Rattle.prettyless_probe.specs.Texts.{IsTexts, texts_waiting};
 ghost use Rattle.prettyless_probe.specs.declared.probe.Fit.TheVariants.{FitsAsTexts};
 ghost use Rattle.prettyless_probe.specs.Sums.{IsSummed};
@@ -50,9 +48,7 @@ fn probe_here<N: Walk>(
     ensures texts { IfOk result (λ fit. fit ≡ FitsAsTexts → (mode ≡ Flat) × IsTexts (N.tree node)) }
     ensures room { IfOk result (λ fit. fit ≡ FitsAsTexts → texts_waiting (N.tree node) 0 ≤ room_of printer.new.scratch) }
     ensures others { printer.new ≡ record printer.old { scratch = printer.new.scratch } }
-    ensures visits { ProbeCosts result N.HAS_SUMMARIES (N.tree node) (tasks_of N.tree printer.old)
-        (reads_here N.HAS_SUMMARIES probes.old printer.old.options (N.tree node) indent mode (tasks_of N.tree printer.old)
-        (state_of N.tree printer.old)) probes.old probes.new }
+    ensures visits { ProbeCostsHere N.tree result N.HAS_SUMMARIES (N.tree node) indent mode printer.old probes.old probes.new }
 {
     let start = ProbeLine {
         column: printer.column,
@@ -119,9 +115,7 @@ fn flush_line<N: Walk>(
     requires pending { some_pending (state_of N.tree printer.old).pending ≡ true }
     requires summed { IsSummed N.HAS_SUMMARIES N.tree printer.old.commands }
     ensures writes { IfOk result (λ piece. Writes N.tree (piece_bytes piece)
-        (break_step printer.old.options (state_of N.tree printer.old).pending (N.tree node) indent mode
-        (following N.tree printer.old) (state_of N.tree printer.old))
-        printer.old printer.new) }
+        (break_here N.tree (N.tree node) indent mode printer.old) printer.old printer.new) }
     ensures summed { OnOk result (IsSummed N.HAS_SUMMARIES N.tree printer.new.commands) }
 {
     printer.commands.push(indent, mode, node)?;
@@ -140,10 +134,7 @@ fn break_line<N: Walk>(
 ) -> Result<StepResult<'static, N>, AllocError>
     requires suppressed { is_suppressed (N.tree node) printer.old.column ≡ (weak && printer.old.column.fresh) }
     requires summed { IsSummed N.HAS_SUMMARIES N.tree printer.old.commands }
-    ensures step { IfOk result (λ taken. Shows N.tree mode taken
-        (break_step printer.old.options (state_of N.tree printer.old).pending (N.tree node) indent mode
-        (following N.tree printer.old) (state_of N.tree printer.old))
-        printer.old printer.new) }
+    ensures step { TakesBreak N.tree result (N.tree node) indent mode printer.old printer.new }
     ensures queue { some_pending (state_of N.tree printer.old).pending ≡ false → printer.new.queue ≡ printer.old.queue }
     ensures start { OnOk result (StartStays N.tree printer.old printer.new) }
     ensures past { IfOk result (λ taken. IsStopped taken → ⊥) }
@@ -178,11 +169,9 @@ fn group<N: Walk>(
     visits: &mut Visits,
 ) -> Result<StepResult<'static, N>, AllocError>
     requires { IsSummed N.HAS_SUMMARIES N.tree printer.old.commands }
-    ensures step { IfOk result (λ taken. Shows N.tree mode taken
-        (step_of printer.old.options (Group (N.tree inner)) indent mode (following N.tree printer.old) (state_of N.tree printer.old))
-        printer.old printer.new) }
-    ensures visits { StepCosts result N.HAS_SUMMARIES printer.old.options (Group (N.tree inner)) indent mode
-        (tasks_of N.tree printer.old) (state_of N.tree printer.old) limit visits.old visits.new }
+    ensures step { TakesStep N.tree result (Group (N.tree inner)) indent mode printer.old printer.new }
+    ensures visits { StepCostsHere N.tree result N.HAS_SUMMARIES
+        (Group (N.tree inner)) indent mode printer.old limit visits.old visits.new }
     ensures queue { printer.new.queue ≡ printer.old.queue }
     ensures summed { OnOk result (IsSummed N.HAS_SUMMARIES N.tree printer.new.commands) }
 {
@@ -217,11 +206,9 @@ fn partial_union<N: Walk>(
     visits: &mut Visits,
 ) -> Result<StepResult<'static, N>, AllocError>
     requires { IsSummed N.HAS_SUMMARIES N.tree printer.old.commands }
-    ensures step { IfOk result (λ taken. Shows N.tree mode taken
-        (step_of printer.old.options (PartialUnion (N.tree first) (N.tree second)) indent mode
-        (following N.tree printer.old) (state_of N.tree printer.old)) printer.old printer.new) }
-    ensures visits { StepCosts result N.HAS_SUMMARIES printer.old.options (PartialUnion (N.tree first) (N.tree second)) indent mode
-        (tasks_of N.tree printer.old) (state_of N.tree printer.old) limit visits.old visits.new }
+    ensures step { TakesStep N.tree result (PartialUnion (N.tree first) (N.tree second)) indent mode printer.old printer.new }
+    ensures visits { StepCostsHere N.tree result N.HAS_SUMMARIES
+        (PartialUnion (N.tree first) (N.tree second)) indent mode printer.old limit visits.old visits.new }
     ensures queue { printer.new.queue ≡ printer.old.queue }
     ensures summed { OnOk result (IsSummed N.HAS_SUMMARIES N.tree printer.new.commands) }
 {
@@ -247,10 +234,7 @@ fn union<N: Walk>(
     second: N,
     visits: &mut Visits,
 ) -> Result<StepResult<'static, N>, AllocError>
-    ensures step { IfOk result (λ taken. Shows N.tree Break taken
-        (union_step (decided_by_metrics printer.old.options (N.tree first) (state_of N.tree printer.old))
-        (N.tree first) (N.tree second) indent (state_of N.tree printer.old))
-        printer.old printer.new) }
+    ensures step { TakesStep N.tree result (Union (N.tree first) (N.tree second)) indent Break printer.old printer.new }
     ensures printer { visits.new.printer
         ≡ counted_payload (is_rejected (decided_by_metrics printer.old.options (N.tree first) (state_of N.tree printer.old)))
         visits.old.printer }
@@ -285,12 +269,8 @@ pub fn step<'v, N: Walk>(
     visits: &mut Visits,
 ) -> Result<StepResult<'v, N>, AllocError>
     requires { IsSummed N.HAS_SUMMARIES N.tree printer.old.commands }
-    ensures step { IfOk result (λ taken. Shows N.tree mode taken
-        (step_of printer.old.options (N.tree node.now) indent mode
-        (following N.tree printer.old) (state_of N.tree printer.old))
-        printer.old printer.new) }
-    ensures visits { StepCosts result N.HAS_SUMMARIES printer.old.options (N.tree node.now) indent mode
-        (tasks_of N.tree printer.old) (state_of N.tree printer.old) limit visits.old visits.new }
+    ensures step { TakesStep N.tree result (N.tree node.now) indent mode printer.old printer.new }
+    ensures visits { StepCostsHere N.tree result N.HAS_SUMMARIES (N.tree node.now) indent mode printer.old limit visits.old visits.new }
     ensures queue { suffix_depth (N.tree node.now) ≡ 0 → some_pending (state_of N.tree printer.old).pending ≡ false
         → printer.new.queue ≡ printer.old.queue }
     ensures start { OnOk result (StartStays N.tree printer.old printer.new) }
