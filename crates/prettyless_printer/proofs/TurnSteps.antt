@@ -51,12 +51,12 @@ took_step f {n = n} {t = t} {x = x} {r} {r'} k v p q hand e costs is stepped sho
 
 -- Texts were laid after room was made for them: commands and queue are those of before.
 pub record KeepsRest {N : Type 0} (f : N → Tree) (p q : Printer N) : Type 0 where
+  pub commands : q.commands ≡ p.commands
   pub tasks : tasks_of f q ≡ tasks_of f p
   pub queue : q.queue ≡ p.queue
 
 pub keeps_rest : {N : Type 0} (f : N → Tree) (p q r : Printer N) → q ≡ record p { flat = q.flat } → r.commands ≡ q.commands
     → r.queue ≡ q.queue → KeepsRest f p r
-keeps_rest {N} f p q r room commands queue = record {
-  tasks = ap (stack_of f) commands ∙ ap (λ (z : Printer N). stack_of f z.commands) room;
-  queue = queue ∙ ap (λ (z : Printer N). z.queue) room;
-}
+keeps_rest {N} f p q r room commands queue =
+    let same : r.commands ≡ p.commands = commands ∙ ap (λ (z : Printer N). z.commands) room in
+    record { commands = same; tasks = ap (stack_of f) same; queue = queue ∙ ap (λ (z : Printer N). z.queue) room }

@@ -1,4 +1,5 @@
-use Rattle.std.proofs.Common.{◌≡◌, ◌∙◌, ◌<◌, List, ℕ, [], ap, arith, length, refl, subst, sym}
+use Rattle.std.proofs.Common.{◌≡◌, ◌∙◌, ◌<◌, IsErr, List, ℕ, Result, Ok, Err, [], ap, arith, length, refl, subst, sym}
+use Rattle.std.specs.Prelude.{OnOk}
 use Rattle.std.proofs.lemmas.List.{nil_from_length}
 use Rattle.std.proofs.lemmas.Str.{IsUtf8-string_bytes}
 use Rattle.std.specs.declared.alloc.AllocError.{AllocError}
@@ -41,6 +42,11 @@ options_at : {N : Type 0} (f : N → Tree) (s : Trial) (y : Tree) (q r : Run N) 
     → Open s y (held_of f r) (trial_point f r) → r.printer.options ≡ q.printer.options
 options_at f s y q r h k = same_options s y (held_of f q) (held_of f r) (trial_point f q) (trial_point f r) h k
 
+-- a result that is an error says nothing of a success
+nothing_on_error : {A E : Type 0} (result : Result A E) (P : Type 0) → IsErr result → OnOk result P
+nothing_on_error (Ok x) P error = cc
+nothing_on_error (Err e) P error = tt
+
 pub work-init : goal.work-init
 work-init g c = record {
   trials = λ s y h. h;
@@ -57,13 +63,26 @@ advance-requires-clause-some g c =
     omega (arith, open_some some.0 some.1 _ _ some.2, length-all_held g.N.Walk.tree c.work.self.trials.open.items)
 
 -- the innermost trial is refused memory
-pub returns-in_err-advance-clause-ends : goal.returns-in_err-advance-clause-ends
-returns-in_err-advance-clause-ends g c =
+pub returns-in_err-advance : goal.returns-in_err-advance
+returns-in_err-advance g c =
     let f = g.N.Walk.tree in
+    let old = c.work.self in
+    let new = c.advance.new.self in
     let same = same_open f _ _ c.advance.ensures.trials in
-    λ s y h. ends_error AllocError c.args.limit s y (held_of f c.advance.new.self) c.from_residual.result
-    c.from_residual.ensures.0
-    (open_error (took AllocError f same (c.work.invariant.trials s y h) c.in_err-advance.ensures.courses))
+    let error = c.from_residual.ensures.0 in
+    record {
+      ends = λ s y h. ends_error AllocError c.args.limit s y (held_of f new) c.from_residual.result error
+          (open_error (took AllocError f same (c.work.invariant.trials s y h) c.in_err-advance.ensures.courses));
+      spends = λ s y h plain. spends_error_as _ c.from_residual.result error (spends_all
+          (open_spends same (record { before = h; now = c.work.invariant.trials s y h; plain = plain })
+          (c.work.invariant.spends s y h plain) c.in_err-advance.ensures.spends));
+      course = λ s y h refused.
+          let now = c.work.invariant.course s y h refused in
+          trials_error g.N.Walk.HAS_SUMMARIES s y (trial_point f new) (held_of f new) c.from_residual.result error
+          (course_error AllocError f g.N.Walk.HAS_SUMMARIES (trial_point f new) _ (held_of f old) now
+          (options_at f s y c.args.self.now old h now.trials) c.in_err-advance.ensures.course);
+      summed = nothing_on_error c.from_residual.result _ error;
+    }
 
 -- it goes on
 pub work-smaller-in-Running : goal.work-smaller-in-Running
@@ -94,27 +113,54 @@ work-preserved-in-Running g c =
     }
 
 -- it stopped
-pub returns-in-Shift-clause-ends : goal.returns-in-Shift-clause-ends
-returns-in-Shift-clause-ends g c = λ s y h.
-    let f = g.N.Walk.tree in (
-      open_stops (took AllocError f (same_open f _ _ c.advance.ensures.trials) (c.work.invariant.trials s y h)
-          (rw c.in-Shift.is at c.in_ok-advance.ensures.courses)),
-      rw c.in-Shift.is at c.in_ok-advance.ensures.past,
-    )
+pub returns-in-Shift : goal.returns-in-Shift
+returns-in-Shift g c =
+    let f = g.N.Walk.tree in
+    let old = c.work.self in
+    let same = same_open f _ _ c.advance.ensures.trials in
+    let courses = rw c.in-Shift.is at c.in_ok-advance.ensures.courses in
+    record {
+      ends = λ s y h. (
+        open_stops (took AllocError f same (c.work.invariant.trials s y h) courses),
+        rw c.in-Shift.is at c.in_ok-advance.ensures.past,
+      );
+      spends = λ s y h plain.
+          open_spends same (record { before = h; now = c.work.invariant.trials s y h; plain = plain })
+          (c.work.invariant.spends s y h plain) (rw c.in-Shift.is at c.in_ok-advance.ensures.spends);
+      course = λ s y h refused.
+          let now = c.work.invariant.course s y h refused in
+          in_held same
+          (course_stays AllocError f g.N.Walk.HAS_SUMMARIES (trial_point f c.advance.new.self) (held_of f old) now
+          (options_at f s y c.args.self.now old h now.trials) courses (rw c.in-Shift.is at c.in_ok-advance.ensures.course));
+      summed = c.in_ok-advance.ensures.summed;
+    }
 
 -- the outermost one is kept
-pub returns-then-is_empty-clause-ends : goal.returns-then-is_empty-clause-ends
-returns-then-is_empty-clause-ends g c =
+pub returns-then-is_empty : goal.returns-then-is_empty
+returns-then-is_empty g c =
     let f = g.N.Walk.tree in
+    let old = c.work.self in
+    let new = c.advance.new.self in
+    let u = c.in-Some.trial in
     let us = c.pop.new.self.items in
+    let same = same_open f _ _ c.advance.ensures.trials in
+    let popped = all_held-push f _ us u c.in-Some.ensures.items in
     let none : all_held f us ≡ [] = nil_from_length (all_held f us) (length-all_held f us ∙ c.is_empty.ensures.none c.if-is_empty.true) in
-    λ s y h. (
-      none,
-      last_kept _ _ (all_held-push f _ us c.in-Some.trial c.in-Some.ensures.items) none
-          (took AllocError f (same_open f _ _ c.advance.ensures.trials) (c.work.invariant.trials s y h)
-          (rw c.in-Complete.is at c.in_ok-advance.ensures.courses))
-          (flagged c.in-Some.trial.mark.within (standing f c.advance.new.self.printer)),
-    )
+    let courses = rw c.in-Complete.is at c.in_ok-advance.ensures.courses in
+    let kept = flagged u.mark.within (standing f new.printer) in
+    record {
+      ends = λ s y h. (none, last_kept _ _ popped none (took AllocError f same (c.work.invariant.trials s y h) courses) kept);
+      spends = λ s y h plain.
+          spends_kept (standing f new.printer) (standing f (record new.printer { within = u.mark.within })) (all_held f us) (held f u)
+          popped refl refl
+          (open_spends same (record { before = h; now = c.work.invariant.trials s y h; plain = plain })
+          (c.work.invariant.spends s y h plain) (rw c.in-Complete.is at c.in_ok-advance.ensures.spends));
+      course = λ s y h refused.
+          let now = c.work.invariant.course s y h refused in
+          course_kept_last AllocError f g.N.Walk.HAS_SUMMARIES (trial_point f new) (all_held f us) (held f u) (sym same ∙ popped) none now
+          (options_at f s y c.args.self.now old h now.trials) courses (rw c.in-Complete.is at c.in_ok-advance.ensures.course) kept;
+      summed = c.in_ok-advance.ensures.summed;
+    }
 
 -- an inner one is kept
 pub work-smaller-else-is_empty : goal.work-smaller-else-is_empty
@@ -188,31 +234,64 @@ undo-requires-clause-buffer g c =
     fell.marked.text fell.marked.marks.written fell.fallen.wrote
 
 -- its second branch is refused memory
-pub returns-in_err-push-in-Rejected-clause-ends : goal.returns-in_err-push-in-Rejected-clause-ends
-returns-in_err-push-in-Rejected-clause-ends g c =
+pub returns-in_err-push-in-Rejected : goal.returns-in_err-push-in-Rejected
+returns-in_err-push-in-Rejected g c =
     let f = g.N.Walk.tree in
-    λ s y h. ends_error AllocError c.args.limit s y _ c.from_residual-in_err-push-in-Rejected.result
-    c.from_residual-in_err-push-in-Rejected.ensures.0
-    (error_at refl (open_rejected_error (took AllocError f (same_open f _ _ c.advance.ensures.trials) (c.work.invariant.trials s y h)
-    (rw c.in-Rejected.is at c.in_ok-advance.ensures.courses))))
+    let old = c.work.self in
+    let new = c.advance.new.self in
+    let next = record new { printer = record c.undo.new.printer { commands = c.push.new.self }; buffer = c.undo.new.buffer } in
+    let same = same_open f _ _ c.advance.ensures.trials in
+    let result = c.from_residual-in_err-push-in-Rejected.result in
+    let error = c.from_residual-in_err-push-in-Rejected.ensures.0 in
+    record {
+      ends = λ s y h. ends_error AllocError c.args.limit s y _ result error
+          (error_at refl (open_rejected_error (took AllocError f same (c.work.invariant.trials s y h)
+          (rw c.in-Rejected.is at c.in_ok-advance.ensures.courses))));
+      spends = λ s y h plain. spends_error_as _ result error (spends_all
+          (open_spends same (record { before = h; now = c.work.invariant.trials s y h; plain = plain })
+          (c.work.invariant.spends s y h plain) (rw c.in-Rejected.is at c.in_ok-advance.ensures.spends)));
+      course = λ s y h refused.
+          let now = c.work.invariant.course s y h refused in
+          trials_error g.N.Walk.HAS_SUMMARIES s y (trial_point f next) (all_held f c.pop-in-Rejected.new.self.items) result error
+          (course_error_rejected AllocError f g.N.Walk.HAS_SUMMARIES (trial_point f new) (held_of f old) now
+          (options_at f s y c.args.self.now old h now.trials) (rw c.in-Rejected.is at c.in_ok-advance.ensures.course));
+      summed = nothing_on_error result _ error;
+    }
 
 -- the outermost one is undone
-pub returns-then-is_empty-2-clause-ends : goal.returns-then-is_empty-2-clause-ends
-returns-then-is_empty-2-clause-ends g c =
+pub returns-then-is_empty-2 : goal.returns-then-is_empty-2
+returns-then-is_empty-2 g c =
     let f = g.N.Walk.tree in
+    let old = c.work.self in
+    let new = c.advance.new.self in
     let r = c.undo.new.printer in
     let q = record r { commands = c.push.new.self } in
+    let u = c.in-Some-pop.trial in
     let us = c.pop-in-Rejected.new.self.items in
+    let same = same_open f _ _ c.advance.ensures.trials in
+    let popped = all_held-push f _ us u c.in-Some-pop.ensures.items in
     let none : all_held f us ≡ [] =
     nil_from_length (all_held f us) (length-all_held f us ∙ c.is_empty-in-Rejected.ensures.none c.if-is_empty-2.true) in
-    λ s y h. (
-      none,
-      last_other _ _ (standing f r) (all_held-push f _ us c.in-Some-pop.trial c.in-Some-pop.ensures.items) none
-          (took AllocError f (same_open f _ _ c.advance.ensures.trials) (c.work.invariant.trials s y h)
-          (rw c.in-Rejected.is at c.in_ok-advance.ensures.courses)) c.undo.ensures.printer
-          (record { is_known = refl; bytes = c.undo.ensures.buffer; failures = c.undo.ensures.failures; lender = refl })
-          (pushed (standing f q) c.in_ok-push-in-Rejected.ensures.pushed refl refl refl),
-    )
+    let courses = rw c.in-Rejected.is at c.in_ok-advance.ensures.courses in
+    let back = pushed (standing f q) c.in_ok-push-in-Rejected.ensures.pushed refl refl refl in
+    record {
+      ends = λ s y h. (
+        none,
+        last_other _ _ (standing f r) popped none (took AllocError f same (c.work.invariant.trials s y h) courses) c.undo.ensures.printer
+            (record { is_known = refl; bytes = c.undo.ensures.buffer; failures = c.undo.ensures.failures; lender = refl }) back,
+      );
+      spends = λ s y h plain.
+          spends_back (standing f r) (all_held f us) (held f u) popped
+          (open_rejected _ _ popped (took AllocError f same c.work.invariant.some.2 courses)) c.undo.ensures.printer back refl
+          (open_spends same (record { before = h; now = c.work.invariant.trials s y h; plain = plain })
+          (c.work.invariant.spends s y h plain) (rw c.in-Rejected.is at c.in_ok-advance.ensures.spends));
+      course = λ s y h refused.
+          let now = c.work.invariant.course s y h refused in
+          course_other_last AllocError f g.N.Walk.HAS_SUMMARIES (trial_point f new) (all_held f us) (held f u) (standing f r)
+          (sym same ∙ popped) none now (options_at f s y c.args.self.now old h now.trials) courses
+          (rw c.in-Rejected.is at c.in_ok-advance.ensures.course) c.undo.ensures.printer back;
+      summed = c.in_ok-push-in-Rejected.ensures.summed (c.undo.ensures.summed c.in_ok-advance.ensures.summed);
+    }
 
 -- an inner one is undone
 pub work-smaller-else-is_empty-2 : goal.work-smaller-else-is_empty-2
@@ -318,156 +397,32 @@ work-preserved g c =
     }
 
 -- a trial more is refused memory
-pub returns-in_err-open_trial-in-Choice-clause-ends : goal.returns-in_err-open_trial-in-Choice-clause-ends
-returns-in_err-open_trial-in-Choice-clause-ends g c =
+pub returns-in_err-open_trial-in-Choice : goal.returns-in_err-open_trial-in-Choice
+returns-in_err-open_trial-in-Choice g c =
     let f = g.N.Walk.tree in
-    λ s y h. ends_error AllocError c.args.limit s y _ c.from_residual-in_err-open_trial-in-Choice.result
-    c.from_residual-in_err-open_trial-in-Choice.ensures.0
-    (error_at (ap (λ (r : Run _). r.visits) c.open_trial.ensures.others)
-    (open_choice_error (took AllocError f (same_open f _ _ c.advance.ensures.trials) (c.work.invariant.trials s y h)
-    (rw c.in-Choice.is at c.in_ok-advance.ensures.courses))))
-
--- what is left then
-pub returns-in_err-advance-clause-spends : goal.returns-in_err-advance-clause-spends
-returns-in_err-advance-clause-spends g c =
-    let f = g.N.Walk.tree in
-    λ s y h plain. spends_error_as _ c.from_residual.result c.from_residual.ensures.0 (spends_all
-    (open_spends (same_open f _ _ c.advance.ensures.trials) (record { before = h; now = c.work.invariant.trials s y h; plain = plain })
-    (c.work.invariant.spends s y h plain) c.in_err-advance.ensures.spends))
-
-pub returns-in-Shift-clause-spends : goal.returns-in-Shift-clause-spends
-returns-in-Shift-clause-spends g c =
-    let f = g.N.Walk.tree in
-    λ s y h plain.
-    open_spends (same_open f _ _ c.advance.ensures.trials) (record { before = h; now = c.work.invariant.trials s y h; plain = plain })
-    (c.work.invariant.spends s y h plain) (rw c.in-Shift.is at c.in_ok-advance.ensures.spends)
-
-pub returns-then-is_empty-clause-spends : goal.returns-then-is_empty-clause-spends
-returns-then-is_empty-clause-spends g c =
-    let f = g.N.Walk.tree in
-    let p = c.advance.new.self.printer in
-    let q = record p { within = c.in-Some.trial.mark.within } in
-    let us = c.pop.new.self.items in
-    λ s y h plain.
-    spends_kept (standing f p) (standing f q) (all_held f us) (held f c.in-Some.trial)
-    (all_held-push f _ us c.in-Some.trial c.in-Some.ensures.items) refl refl
-    (open_spends (same_open f _ _ c.advance.ensures.trials) (record { before = h; now = c.work.invariant.trials s y h; plain = plain })
-    (c.work.invariant.spends s y h plain) (rw c.in-Complete.is at c.in_ok-advance.ensures.spends))
-
-pub returns-in_err-push-in-Rejected-clause-spends : goal.returns-in_err-push-in-Rejected-clause-spends
-returns-in_err-push-in-Rejected-clause-spends g c =
-    let f = g.N.Walk.tree in
-    λ s y h plain. spends_error_as _ c.from_residual-in_err-push-in-Rejected.result
-    c.from_residual-in_err-push-in-Rejected.ensures.0 (spends_all
-    (open_spends (same_open f _ _ c.advance.ensures.trials) (record { before = h; now = c.work.invariant.trials s y h; plain = plain })
-    (c.work.invariant.spends s y h plain) (rw c.in-Rejected.is at c.in_ok-advance.ensures.spends)))
-
-pub returns-then-is_empty-2-clause-spends : goal.returns-then-is_empty-2-clause-spends
-returns-then-is_empty-2-clause-spends g c =
-    let f = g.N.Walk.tree in
-    let r = c.undo.new.printer in
-    let q = record r { commands = c.push.new.self } in
-    let us = c.pop-in-Rejected.new.self.items in
+    let old = c.work.self in
+    let new = c.advance.new.self in
+    let next = c.open_trial.new.self in
+    let others = c.open_trial.ensures.others in
     let same = same_open f _ _ c.advance.ensures.trials in
-    λ s y h plain.
-    spends_back (standing f r) (all_held f us) (held f c.in-Some-pop.trial)
-    (all_held-push f _ us c.in-Some-pop.trial c.in-Some-pop.ensures.items)
-    (open_rejected _ _ (all_held-push f _ _ c.in-Some-pop.trial c.in-Some-pop.ensures.items)
-    (took AllocError f same c.work.invariant.some.2 (rw c.in-Rejected.is at c.in_ok-advance.ensures.courses))) c.undo.ensures.printer
-    (pushed (standing f q) c.in_ok-push-in-Rejected.ensures.pushed refl refl refl) refl
-    (open_spends same (record { before = h; now = c.work.invariant.trials s y h; plain = plain })
-    (c.work.invariant.spends s y h plain) (rw c.in-Rejected.is at c.in_ok-advance.ensures.spends))
-
-pub returns-in_err-open_trial-in-Choice-clause-spends : goal.returns-in_err-open_trial-in-Choice-clause-spends
-returns-in_err-open_trial-in-Choice-clause-spends g c =
-    let f = g.N.Walk.tree in
-    λ s y h plain. spends_error_as _ c.from_residual-in_err-open_trial-in-Choice.result
-    c.from_residual-in_err-open_trial-in-Choice.ensures.0
-    (subst (λ (v : Visits). Spends (rule_of g.N.Walk.HAS_SUMMARIES c.args.limit) (left_of f c.args.self.now) (none_left v))
-    (sym (ap (λ (r : Run _). r.visits) c.open_trial.ensures.others))
-    (spends_all
-    (open_spends (same_open f _ _ c.advance.ensures.trials) (record { before = h; now = c.work.invariant.trials s y h; plain = plain })
-    (c.work.invariant.spends s y h plain) (rw c.in-Choice.is at c.in_ok-advance.ensures.spends))))
-
--- ---- Where it has come in the course of a run
-
--- the innermost trial is refused memory
-pub returns-in_err-advance-clause-course : goal.returns-in_err-advance-clause-course
-returns-in_err-advance-clause-course g c =
-    let f = g.N.Walk.tree in
-    λ s y h refused.
-    let now = c.work.invariant.course s y h refused in
-    trials_error g.N.Walk.HAS_SUMMARIES s y (trial_point f c.advance.new.self) (held_of f c.advance.new.self)
-    c.from_residual.result c.from_residual.ensures.0
-    (course_error AllocError f g.N.Walk.HAS_SUMMARIES (trial_point f c.advance.new.self) _ (held_of f c.work.self) now
-    (options_at f s y c.args.self.now c.work.self h now.trials) c.in_err-advance.ensures.course)
-
--- it stopped
-pub returns-in-Shift-clause-course : goal.returns-in-Shift-clause-course
-returns-in-Shift-clause-course g c = λ s y h refused.
-    let f = g.N.Walk.tree in
-    let now = c.work.invariant.course s y h refused in
-    let same = same_open f _ _ c.advance.ensures.trials in
-    in_held same
-    (course_stays AllocError f g.N.Walk.HAS_SUMMARIES (trial_point f c.advance.new.self) (held_of f c.work.self) now
-    (options_at f s y c.args.self.now c.work.self h now.trials) (rw c.in-Shift.is at c.in_ok-advance.ensures.courses)
-    (rw c.in-Shift.is at c.in_ok-advance.ensures.course))
-
--- the outermost one is kept
-pub returns-then-is_empty-clause-course : goal.returns-then-is_empty-clause-course
-returns-then-is_empty-clause-course g c = λ s y h refused.
-    let f = g.N.Walk.tree in
-    let now = c.work.invariant.course s y h refused in
-    let us = c.pop.new.self.items in
-    let same = same_open f _ _ c.advance.ensures.trials in
-    let none : all_held f us ≡ [] = nil_from_length (all_held f us) (length-all_held f us ∙ c.is_empty.ensures.none c.if-is_empty.true) in
-    course_kept_last AllocError f g.N.Walk.HAS_SUMMARIES (trial_point f c.advance.new.self) (all_held f us) (held f c.in-Some.trial)
-    (sym same ∙ all_held-push f _ us c.in-Some.trial c.in-Some.ensures.items) none now (options_at f s y c.args.self.now c.work.self h
-    now.trials)
-    (rw c.in-Complete.is at c.in_ok-advance.ensures.courses) (rw c.in-Complete.is at c.in_ok-advance.ensures.course)
-    (flagged c.in-Some.trial.mark.within (standing f c.advance.new.self.printer))
-
--- its second branch is refused memory
-pub returns-in_err-push-in-Rejected-clause-course : goal.returns-in_err-push-in-Rejected-clause-course
-returns-in_err-push-in-Rejected-clause-course g c =
-    let f = g.N.Walk.tree in
-    λ s y h refused.
-    let now = c.work.invariant.course s y h refused in
-    let next = record c.advance.new.self {
-      printer = record c.undo.new.printer { commands = c.push.new.self };
-      buffer = c.undo.new.buffer;
-    } in
-    trials_error g.N.Walk.HAS_SUMMARIES s y (trial_point f next) (all_held f c.pop-in-Rejected.new.self.items)
-    c.from_residual-in_err-push-in-Rejected.result c.from_residual-in_err-push-in-Rejected.ensures.0
-    (course_error_rejected AllocError f g.N.Walk.HAS_SUMMARIES (trial_point f c.advance.new.self) (held_of f c.work.self) now
-    (options_at f s y c.args.self.now c.work.self h now.trials) (rw c.in-Rejected.is at c.in_ok-advance.ensures.course))
-
--- the outermost one is undone
-pub returns-then-is_empty-2-clause-course : goal.returns-then-is_empty-2-clause-course
-returns-then-is_empty-2-clause-course g c = λ s y h refused.
-    let f = g.N.Walk.tree in
-    let now = c.work.invariant.course s y h refused in
-    let r = c.undo.new.printer in
-    let q = record r { commands = c.push.new.self } in
-    let us = c.pop-in-Rejected.new.self.items in
-    let same = same_open f _ _ c.advance.ensures.trials in
-    let none : all_held f us ≡ [] =
-    nil_from_length (all_held f us) (length-all_held f us ∙ c.is_empty-in-Rejected.ensures.none c.if-is_empty-2.true) in
-    course_other_last AllocError f g.N.Walk.HAS_SUMMARIES (trial_point f c.advance.new.self) (all_held f us) (held f c.in-Some-pop.trial)
-    (standing f r) (sym same ∙ all_held-push f _ us c.in-Some-pop.trial c.in-Some-pop.ensures.items)
-    none now (options_at f s y c.args.self.now c.work.self h now.trials)
-    (rw c.in-Rejected.is at c.in_ok-advance.ensures.courses) (rw c.in-Rejected.is at c.in_ok-advance.ensures.course)
-    c.undo.ensures.printer (pushed (standing f q) c.in_ok-push-in-Rejected.ensures.pushed refl refl refl)
-
--- a trial more is refused memory
-pub returns-in_err-open_trial-in-Choice-clause-course : goal.returns-in_err-open_trial-in-Choice-clause-course
-returns-in_err-open_trial-in-Choice-clause-course g c =
-    let f = g.N.Walk.tree in
-    λ s y h refused.
-    let now = c.work.invariant.course s y h refused in
-    trials_error g.N.Walk.HAS_SUMMARIES s y (trial_point f c.open_trial.new.self) (held_of f c.open_trial.new.self)
-    c.from_residual-in_err-open_trial-in-Choice.result c.from_residual-in_err-open_trial-in-Choice.ensures.0
-    (part_at (ap (λ (r : Run _). r.visits.probes) c.open_trial.ensures.others)
-    (course_error_choice AllocError f g.N.Walk.HAS_SUMMARIES (trial_point f c.advance.new.self)
-    c.in-Choice.choice (held_of f c.work.self) now
-    (options_at f s y c.args.self.now c.work.self h now.trials) (rw c.in-Choice.is at c.in_ok-advance.ensures.course)))
+    let result = c.from_residual-in_err-open_trial-in-Choice.result in
+    let error = c.from_residual-in_err-open_trial-in-Choice.ensures.0 in
+    record {
+      ends = λ s y h. ends_error AllocError c.args.limit s y _ result error
+          (error_at (ap (λ (r : Run _). r.visits) others)
+          (open_choice_error (took AllocError f same (c.work.invariant.trials s y h)
+          (rw c.in-Choice.is at c.in_ok-advance.ensures.courses))));
+      spends = λ s y h plain. spends_error_as _ result error
+          (subst (λ (v : Visits). Spends (rule_of g.N.Walk.HAS_SUMMARIES c.args.limit) (left_of f c.args.self.now) (none_left v))
+          (sym (ap (λ (r : Run _). r.visits) others))
+          (spends_all
+          (open_spends same (record { before = h; now = c.work.invariant.trials s y h; plain = plain })
+          (c.work.invariant.spends s y h plain) (rw c.in-Choice.is at c.in_ok-advance.ensures.spends))));
+      course = λ s y h refused.
+          let now = c.work.invariant.course s y h refused in
+          trials_error g.N.Walk.HAS_SUMMARIES s y (trial_point f next) (held_of f next) result error
+          (part_at (ap (λ (r : Run _). r.visits.probes) others)
+          (course_error_choice AllocError f g.N.Walk.HAS_SUMMARIES (trial_point f new) c.in-Choice.choice (held_of f old) now
+          (options_at f s y c.args.self.now old h now.trials) (rw c.in-Choice.is at c.in_ok-advance.ensures.course)));
+      summed = nothing_on_error result _ error;
+    }
