@@ -180,6 +180,7 @@ fn group<N: Walk>(
             return Ok(StepResult::Shift);
         }
         match probe_here(printer, inner, indent, Mode::Flat, &mut visits.probes)? {
+            // The groups inside are probed in turn: to spare that takes a variant of the answer, an argument and an invariant.
             Fit::Exceeds => return Ok(StepResult::Descend(indent, inner)),
             // A break alone is laid as soon by the printer's own loop.
             Fit::FitsAsTexts => match inner.view() {
