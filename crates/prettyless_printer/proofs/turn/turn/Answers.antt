@@ -229,6 +229,7 @@ returns-in-Ok-lay_texts g c =
     let r = c.lay_texts.new.printer in
     let see = seen g.W.Render.bytes g.W.Render.failures g.W.Render.lender in
     let a = point f c.args.printer.now (see c.args.out.now) c.args.visits.now in
+    let b = point f r (see c.lay_texts.new.out) c.lay_texts.new.visits in
     let laying = subst (λ (z : Standing). Laying a (make_task i Flat (f n) ∷ [])
     (point_at z (see c.down.out) (visited_more c.one_more-in-Ok-DescendTexts.result c.step.new.visits)))
     (sym (ap (standing f) c.make_room.ensures.others)) (laying_begins f p q _ i n h.took.hand h.took.one h.asked h.shows.0) in
@@ -241,8 +242,7 @@ returns-in-Ok-lay_texts g c =
     let down = descended f i Flat n
     (step_from c.args.printer.now.options (make_task c.down.indent c.down.mode (f c.down.node)) (standing f p)) p q h.shows.0 in
     record {
-      advances = subst (λ (z : Result (Unit {0}) g.row.W-Error.Denot). Advances f a (point f r (see c.lay_texts.new.out) c.lay_texts.new.visits)
-          (ends_turn z)) c.in-Ok-lay_texts.is (lays a i laying);
+      advances = subst (λ (z : Result (Unit {0}) g.row.W-Error.Denot). Advances f a b (ends_turn z)) c.in-Ok-lay_texts.is (lays a i laying);
       past = tt;
       spends = λ plain.
           spends_laid (standing f q) (standing f r) c.lay_texts.new.visits kept.tasks
@@ -276,6 +276,7 @@ returns-in-Err-lay_texts g c =
     let r = c.lay_texts.new.printer in
     let see = seen g.W.Render.bytes g.W.Render.failures g.W.Render.lender in
     let a = point f c.args.printer.now (see c.args.out.now) c.args.visits.now in
+    let b = point f r (see c.lay_texts.new.out) c.lay_texts.new.visits in
     let laying = subst (λ (z : Standing). Laying a (make_task i Flat (f n) ∷ [])
     (point_at z (see c.down.out) (visited_more c.one_more-in-Ok-DescendTexts.result c.step.new.visits)))
     (sym (ap (standing f) c.make_room.ensures.others)) (laying_begins f p q _ i n h.took.hand h.took.one h.asked h.shows.0) in
@@ -288,8 +289,8 @@ returns-in-Err-lay_texts g c =
     let down = descended f i Flat n
     (step_from c.args.printer.now.options (make_task c.down.indent c.down.mode (f c.down.node)) (standing f p)) p q h.shows.0 in
     record {
-      advances = subst (λ (z : Result (Unit {0}) g.row.W-Error.Denot). Advances f a (point f r (see c.lay_texts.new.out) c.lay_texts.new.visits)
-          (ends_turn z)) c.in-Err-lay_texts.is (lays a i laying);
+      advances = subst (λ (z : Result (Unit {0}) g.row.W-Error.Denot). Advances f a b (ends_turn z)) c.in-Err-lay_texts.is
+          (lays a i laying);
       past = tt;
       spends = λ plain.
           spends_all (spends_laid (standing f q) (standing f r) c.lay_texts.new.visits kept.tasks

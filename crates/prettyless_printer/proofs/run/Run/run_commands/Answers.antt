@@ -117,28 +117,61 @@ work-preserved g c =
     }
 
 -- it stops before a node
-pub returns-in-Shift-clause-works : goal.returns-in-Shift-clause-works
-returns-in-Shift-clause-works g c =
+pub returns-in-Shift : goal.returns-in-Shift
+returns-in-Shift g c =
     let f = g.N.Walk.tree in
-    let l : 0 < length (tasks_of f c.work.self.printer) = omega (arith, c.work-test.true, c.len.ensures) in
     let sink = seen_by g.W.Render in
     let start = point_of f c.args.self.now (sink c.args.out.now) in
+    let l : 0 < length (tasks_of f c.work.self.printer) = omega (arith, c.work-test.true, c.len.ensures) in
     let next = record c.work.self { printer = c.turn.new.printer; visits = c.turn.new.visits } in
-    let turned = rw c.in-Shift.is at c.in_ok-turn.ensures.advances in
+    let none = ap (all_held f) c.work.invariant.none in
     record {
-      comes = comes_alone start (station_of f next (sink c.turn.new.out)) (ap (all_held f) c.work.invariant.none)
-          (path_continues (stops f c.work.invariant.path l turned));
-      past = rw c.in-Shift.is at c.in_ok-turn.ensures.past;
+      works = record {
+        comes = comes_alone start (station_of f next (sink c.turn.new.out)) none
+            (path_continues (stops f c.work.invariant.path l (rw c.in-Shift.is at c.in_ok-turn.ensures.advances)));
+        past = rw c.in-Shift.is at c.in_ok-turn.ensures.past;
+      };
+      spends = λ plain.
+          none_seconds f next none
+          (path_spends c.work.invariant.path plain (c.work.invariant.spends plain) (rw c.in-Shift.is at c.in_ok-turn.ensures.spends));
+      course = λ refused.
+          station_alone (station_of f next (sink c.turn.new.out)) none
+          (come_then (c.work.invariant.course refused)
+          (took_turn g.row.W-Error.Denot f g.N.Walk.HAS_SUMMARIES refused c.work.self.printer c.turn.new.printer
+          c.work.self.visits.probes c.turn.new.visits.probes (Ok turn_result.Shift) c.work.invariant.path.options
+          (rw c.in-Shift.is at c.in_ok-turn.ensures.course)));
+      pays = λ free.
+          let before = c.work.invariant.pays free in (
+            c.work.invariant.none,
+            pays_then before ((rw c.in-Shift.is at c.in_ok-turn.ensures.pays) before.unions),
+            λ some. (rw c.in-Shift.is at c.in_ok-turn.ensures.start) ∙ c.work.invariant.clear free some,
+          );
+      summed = c.in_ok-turn.ensures.summed;
     }
 
-pub returns-in-Failed-clause-works : goal.returns-in-Failed-clause-works
-returns-in-Failed-clause-works g c =
+-- a node fails
+pub returns-in-Failed : goal.returns-in-Failed
+returns-in-Failed g c =
     let f = g.N.Walk.tree in
     let fails = g.W.Render.document_errors c.turn.new.out in
     let l : 0 < length (tasks_of f c.work.self.printer) = omega (arith, c.work-test.true, c.len.ensures) in
-    run_error fails _ (fails_there f fails c.fail_doc.result c.work.invariant.path l
-    (rw c.in-Failed.is at c.in_ok-turn.ensures.advances) c.fail_doc.ensures)
+    record {
+      works = run_error fails _ (fails_there f fails c.fail_doc.result c.work.invariant.path l
+          (rw c.in-Failed.is at c.in_ok-turn.ensures.advances) c.fail_doc.ensures);
+      spends = λ plain. spends_all
+          (path_spends c.work.invariant.path plain (c.work.invariant.spends plain) (rw c.in-Failed.is at c.in_ok-turn.ensures.spends));
+      course = λ refused.
+          stops_after (c.work.invariant.course refused) (fails_alone
+          (took_turn g.row.W-Error.Denot f g.N.Walk.HAS_SUMMARIES refused c.work.self.printer c.turn.new.printer
+          c.work.self.visits.probes c.turn.new.visits.probes (Ok turn_result.Failed) c.work.invariant.path.options
+          (rw c.in-Failed.is at c.in_ok-turn.ensures.course)));
+      pays = λ free.
+          let before = c.work.invariant.pays free in
+          pays_all (pays_then before ((rw c.in-Failed.is at c.in_ok-turn.ensures.pays) before.unions));
+      summed = tt;
+    }
 
+-- a turn ends in an error
 pub returns-in_err-turn-clause-works : goal.returns-in_err-turn-clause-works
 returns-in_err-turn-clause-works g c =
     let residual = err_from_is_err_and c.from_residual.result c.from_residual.ensures.1 in
@@ -149,105 +182,11 @@ returns-in_err-turn-clause-works g c =
     run_error fails c.in_err-turn.field-0.0
     (breaks_off f fails c.in_err-turn.field-0.0 c.work.invariant.path l c.in_err-turn.ensures.advances)
 
-pub returns-in_err-choose-in-Choice-clause-works : goal.returns-in_err-choose-in-Choice-clause-works
-returns-in_err-choose-in-Choice-clause-works g c =
-    let residual = err_from_is_err_and c.from_residual-in_err-choose-in-Choice.result c.from_residual-in_err-choose-in-Choice.ensures.1 in
-    rw (residual.1, residual.2)
-    let f = g.N.Walk.tree in
-    let fails = g.W.Render.document_errors c.choose.new.out in
-    let e = c.in_err-choose-in-Choice.field-0.0 in
-    let l : 0 < length (tasks_of f c.work.self.printer) = omega (arith, c.work-test.true, c.len.ensures) in
-    let waiting = path_to_choice f c.in-Choice.choice c.work.invariant.path l
-    (rw c.in-Choice.is at c.in_ok-turn.ensures.advances) (omega arith) in
-    run_error fails e
-    (error_anyhow fails e (c.in_err-choose-in-Choice.ensures.settles.runs
-    (run_of (point_of f c.args.self.now (seen_by g.W.Render c.args.out.now))) waiting))
-
-pub returns-clause-works : goal.returns-clause-works
-returns-clause-works g c =
-    let f = g.N.Walk.tree in
-    let l : length (tasks_of f c.work.self.printer) ≤ 0 = omega (arith, c.work-test.false, c.len.ensures) in
-    (ap (all_held f) c.work.invariant.none, run_ends (g.W.Render.document_errors c.work.out) run_result.Finished c.work.invariant.path l)
-
--- it stops in a choice
-pub returns-in-Shift-2-clause-works : goal.returns-in-Shift-2-clause-works
-returns-in-Shift-2-clause-works g c =
-    let f = g.N.Walk.tree in
-    let l : 0 < length (tasks_of f c.work.self.printer) = omega (arith, c.work-test.true, c.len.ensures) in
-    let sink = seen_by g.W.Render in
-    let waiting = path_to_choice f c.in-Choice.choice c.work.invariant.path l
-    (rw c.in-Choice.is at c.in_ok-turn.ensures.advances) (omega arith) in
-    let settled = rw c.in-Shift-2.is at c.in_ok-choose-in-Choice.ensures.settles in
-    record {
-      comes = comes_in_choice (station_of f c.choose.new.self (sink c.choose.new.out))
-          (continues_same (point_of f c.args.self.now (sink c.args.out.now))) waiting settled.0;
-      past = settled.1;
-    }
-
--- what is left where it ends
 pub returns-in_err-turn-clause-spends : goal.returns-in_err-turn-clause-spends
 returns-in_err-turn-clause-spends g c = λ plain.
     let next = record c.work.self { printer = c.turn.new.printer; visits = c.turn.new.visits } in
     spends_error_as (left_of g.N.Walk.tree next) c.from_residual.result c.from_residual.ensures.0
     (path_spends c.work.invariant.path plain (c.work.invariant.spends plain) c.in_err-turn.ensures.spends)
-
-pub returns-in-Failed-clause-spends : goal.returns-in-Failed-clause-spends
-returns-in-Failed-clause-spends g c =
-    λ plain. spends_all (path_spends c.work.invariant.path plain (c.work.invariant.spends plain)
-    (rw c.in-Failed.is at c.in_ok-turn.ensures.spends))
-
-pub returns-in-Shift-clause-spends : goal.returns-in-Shift-clause-spends
-returns-in-Shift-clause-spends g c = λ plain.
-    let f = g.N.Walk.tree in
-    let next = record c.work.self { printer = c.turn.new.printer; visits = c.turn.new.visits } in
-    none_seconds f next (ap (all_held f) c.work.invariant.none)
-    (path_spends c.work.invariant.path plain (c.work.invariant.spends plain) (rw c.in-Shift.is at c.in_ok-turn.ensures.spends))
-
-pub returns-in_err-choose-in-Choice-clause-spends : goal.returns-in_err-choose-in-Choice-clause-spends
-returns-in_err-choose-in-Choice-clause-spends g c = λ plain.
-    let f = g.N.Walk.tree in
-    let l : 0 < length (tasks_of f c.work.self.printer) = omega (arith, c.work-test.true, c.len.ensures) in
-    let waiting = path_to_choice f c.in-Choice.choice c.work.invariant.path l
-    (rw c.in-Choice.is at c.in_ok-turn.ensures.advances) (omega arith) in
-    spends_error_as (left_of f c.choose.new.self) c.from_residual-in_err-choose-in-Choice.result
-    c.from_residual-in_err-choose-in-Choice.ensures.0
-    (waiting_spends waiting plain
-    (path_spends c.work.invariant.path plain (c.work.invariant.spends plain) (rw c.in-Choice.is at c.in_ok-turn.ensures.spends))
-    c.in_err-choose-in-Choice.ensures.spends)
-
-pub returns-in-Shift-2-clause-spends : goal.returns-in-Shift-2-clause-spends
-returns-in-Shift-2-clause-spends g c = λ plain.
-    let f = g.N.Walk.tree in
-    let l : 0 < length (tasks_of f c.work.self.printer) = omega (arith, c.work-test.true, c.len.ensures) in
-    let waiting = path_to_choice f c.in-Choice.choice c.work.invariant.path l
-    (rw c.in-Choice.is at c.in_ok-turn.ensures.advances) (omega arith) in
-    waiting_spends waiting plain
-    (path_spends c.work.invariant.path plain (c.work.invariant.spends plain) (rw c.in-Choice.is at c.in_ok-turn.ensures.spends))
-    c.in_ok-choose-in-Choice.ensures.spends
-
-pub returns-clause-spends : goal.returns-clause-spends
-returns-clause-spends g c = λ plain.
-    none_seconds g.N.Walk.tree c.work.self (ap (all_held g.N.Walk.tree) c.work.invariant.none) (c.work.invariant.spends plain)
-
--- ---- Where it has come in its course
-
-pub returns-in-Shift-clause-course : goal.returns-in-Shift-clause-course
-returns-in-Shift-clause-course g c = λ refused.
-    let f = g.N.Walk.tree in
-    let next = record c.work.self { printer = c.turn.new.printer; visits = c.turn.new.visits } in
-    station_alone (station_of f next (seen_by g.W.Render c.turn.new.out)) (ap (all_held f) c.work.invariant.none)
-    (come_then (c.work.invariant.course refused)
-    (took_turn g.row.W-Error.Denot f g.N.Walk.HAS_SUMMARIES refused c.work.self.printer c.turn.new.printer c.work.self.visits.probes
-    c.turn.new.visits.probes
-    (Ok turn_result.Shift) c.work.invariant.path.options (rw c.in-Shift.is at c.in_ok-turn.ensures.course)))
-
-pub returns-in-Failed-clause-course : goal.returns-in-Failed-clause-course
-returns-in-Failed-clause-course g c = λ refused.
-    let f = g.N.Walk.tree in
-    stops_after (c.work.invariant.course refused) (fails_alone
-    (took_turn g.row.W-Error.Denot f g.N.Walk.HAS_SUMMARIES refused c.work.self.printer c.turn.new.printer c.work.self.visits.probes
-    c.turn.new.visits.probes
-    (Ok turn_result.Failed) c.work.invariant.path.options (rw c.in-Failed.is at c.in_ok-turn.ensures.course)))
 
 pub returns-in_err-turn-clause-course : goal.returns-in_err-turn-clause-course
 returns-in_err-turn-clause-course g c =
@@ -262,6 +201,83 @@ returns-in_err-turn-clause-course g c =
     (turn_error f c.args.self.now.printer.options start (around [] has refused) (standing f c.turn.new.printer) c.turn.new.visits.probes e
     (took_turn g.row.W-Error.Denot f has refused c.work.self.printer c.turn.new.printer c.work.self.visits.probes c.turn.new.visits.probes
     (Err e) c.work.invariant.path.options c.in_err-turn.ensures.course))
+
+pub returns-in_err-turn-clause-pays : goal.returns-in_err-turn-clause-pays
+returns-in_err-turn-clause-pays g c = λ free.
+    let f = g.N.Walk.tree in
+    let next = record c.work.self { printer = c.turn.new.printer; visits = c.turn.new.visits } in
+    let before = c.work.invariant.pays free in
+    pays_error_as f c.args.self.now next c.from_residual.result c.from_residual.ensures.0
+    (pays_then before (c.in_err-turn.ensures.pays before.unions))
+
+-- all is done
+pub returns : goal.returns
+returns g c =
+    let f = g.N.Walk.tree in
+    let l : length (tasks_of f c.work.self.printer) ≤ 0 = omega (arith, c.work-test.false, c.len.ensures) in
+    let none = ap (all_held f) c.work.invariant.none in
+    record {
+      works = (none, run_ends (g.W.Render.document_errors c.work.out) run_result.Finished c.work.invariant.path l);
+      spends = λ plain. none_seconds f c.work.self none (c.work.invariant.spends plain);
+      course = c.work.invariant.course;
+      pays = λ free. (c.work.invariant.none, c.work.invariant.pays free, c.work.invariant.clear free);
+      summed = c.work.invariant.summed;
+    }
+
+-- it stops in a choice
+pub returns-in-Shift-2 : goal.returns-in-Shift-2
+returns-in-Shift-2 g c =
+    let f = g.N.Walk.tree in
+    let sink = seen_by g.W.Render in
+    let start = point_of f c.args.self.now (sink c.args.out.now) in
+    let l : 0 < length (tasks_of f c.work.self.printer) = omega (arith, c.work-test.true, c.len.ensures) in
+    let turned = rw c.in-Choice.is at c.in_ok-turn.ensures.advances in
+    let same = turned.options ∙ c.work.invariant.path.options in
+    let waiting = path_to_choice f c.in-Choice.choice c.work.invariant.path l turned (omega arith) in
+    let settled = rw c.in-Shift-2.is at c.in_ok-choose-in-Choice.ensures.settles in
+    let there = station_of f c.choose.new.self (sink c.choose.new.out) in
+    record {
+      works = record { comes = comes_in_choice there (continues_same start) waiting settled.0; past = settled.1 };
+      spends = λ plain.
+          waiting_spends waiting plain
+          (path_spends c.work.invariant.path plain (c.work.invariant.spends plain) (rw c.in-Choice.is at c.in_ok-turn.ensures.spends))
+          c.in_ok-choose-in-Choice.ensures.spends;
+      course = λ refused.
+          let waits = waits_after same (c.work.invariant.course refused)
+          (took_turn g.row.W-Error.Denot f g.N.Walk.HAS_SUMMARIES refused c.work.self.printer c.turn.new.printer c.work.self.visits.probes
+          c.turn.new.visits.probes (Ok (turn_result.Choice c.in-Choice.choice)) c.work.invariant.path.options
+          (rw c.in-Choice.is at c.in_ok-turn.ensures.course)) in
+          station_in_choice there (in_choice_at same ((rw c.in-Shift-2.is at c.in_ok-choose-in-Choice.ensures.course) _ refused waits));
+      pays = λ free. absurd ((rw c.in-Choice.is at c.in_ok-turn.ensures.pays) (c.work.invariant.pays free).unions);
+      summed = c.in_ok-choose-in-Choice.ensures.summed;
+    }
+
+-- a choice ends in an error
+pub returns-in_err-choose-in-Choice-clause-works : goal.returns-in_err-choose-in-Choice-clause-works
+returns-in_err-choose-in-Choice-clause-works g c =
+    let residual = err_from_is_err_and c.from_residual-in_err-choose-in-Choice.result c.from_residual-in_err-choose-in-Choice.ensures.1 in
+    rw (residual.1, residual.2)
+    let f = g.N.Walk.tree in
+    let fails = g.W.Render.document_errors c.choose.new.out in
+    let e = c.in_err-choose-in-Choice.field-0.0 in
+    let l : 0 < length (tasks_of f c.work.self.printer) = omega (arith, c.work-test.true, c.len.ensures) in
+    let waiting = path_to_choice f c.in-Choice.choice c.work.invariant.path l
+    (rw c.in-Choice.is at c.in_ok-turn.ensures.advances) (omega arith) in
+    run_error fails e
+    (error_anyhow fails e (c.in_err-choose-in-Choice.ensures.settles.runs
+    (run_of (point_of f c.args.self.now (seen_by g.W.Render c.args.out.now))) waiting))
+
+pub returns-in_err-choose-in-Choice-clause-spends : goal.returns-in_err-choose-in-Choice-clause-spends
+returns-in_err-choose-in-Choice-clause-spends g c = λ plain.
+    let f = g.N.Walk.tree in
+    let l : 0 < length (tasks_of f c.work.self.printer) = omega (arith, c.work-test.true, c.len.ensures) in
+    let waiting = path_to_choice f c.in-Choice.choice c.work.invariant.path l
+    (rw c.in-Choice.is at c.in_ok-turn.ensures.advances) (omega arith) in
+    spends_error_as (left_of f c.choose.new.self) c.from_residual-in_err-choose-in-Choice.result
+    c.from_residual-in_err-choose-in-Choice.ensures.0
+    (waiting_spends waiting plain
+    (path_spends c.work.invariant.path plain (c.work.invariant.spends plain) (rw c.in-Choice.is at c.in_ok-turn.ensures.spends))
+    c.in_err-choose-in-Choice.ensures.spends)
 
 pub returns-in_err-choose-in-Choice-clause-course : goal.returns-in_err-choose-in-Choice-clause-course
 returns-in_err-choose-in-Choice-clause-course g c =
@@ -278,50 +294,6 @@ returns-in_err-choose-in-Choice-clause-course g c =
     (Ok (turn_result.Choice c.in-Choice.choice)) c.work.invariant.path.options (rw c.in-Choice.is at c.in_ok-turn.ensures.course)) in
     error_at _ c.choose.new.self.visits.probes refused e same (c.in_err-choose-in-Choice.ensures.course _ refused waits)
 
-pub returns-clause-course : goal.returns-clause-course
-returns-clause-course g c = c.work.invariant.course
-
-pub returns-in-Shift-2-clause-course : goal.returns-in-Shift-2-clause-course
-returns-in-Shift-2-clause-course g c = λ refused.
-    let f = g.N.Walk.tree in
-    let advanced = rw c.in-Choice.is at c.in_ok-turn.ensures.advances in
-    let same = advanced.options ∙ c.work.invariant.path.options in
-    let waits = waits_after same (c.work.invariant.course refused)
-    (took_turn g.row.W-Error.Denot f g.N.Walk.HAS_SUMMARIES refused c.work.self.printer c.turn.new.printer c.work.self.visits.probes
-    c.turn.new.visits.probes
-    (Ok (turn_result.Choice c.in-Choice.choice)) c.work.invariant.path.options (rw c.in-Choice.is at c.in_ok-turn.ensures.course)) in
-    station_in_choice (station_of f c.choose.new.self (seen_by g.W.Render c.choose.new.out))
-    (in_choice_at same ((rw c.in-Shift-2.is at c.in_ok-choose-in-Choice.ensures.course) _ refused waits))
-
--- without unions
-pub returns-in_err-turn-clause-pays : goal.returns-in_err-turn-clause-pays
-returns-in_err-turn-clause-pays g c = λ free.
-    let f = g.N.Walk.tree in
-    let next = record c.work.self { printer = c.turn.new.printer; visits = c.turn.new.visits } in
-    let before = c.work.invariant.pays free in
-    pays_error_as f c.args.self.now next c.from_residual.result c.from_residual.ensures.0
-    (pays_then before (c.in_err-turn.ensures.pays before.unions))
-
-pub returns-in-Failed-clause-pays : goal.returns-in-Failed-clause-pays
-returns-in-Failed-clause-pays g c = λ free.
-    let before = c.work.invariant.pays free in
-    pays_all (pays_then before ((rw c.in-Failed.is at c.in_ok-turn.ensures.pays) before.unions))
-
-pub returns-in-Shift-clause-pays : goal.returns-in-Shift-clause-pays
-returns-in-Shift-clause-pays g c = λ free.
-    let before = c.work.invariant.pays free in (
-      c.work.invariant.none,
-      pays_then before ((rw c.in-Shift.is at c.in_ok-turn.ensures.pays) before.unions),
-      λ start. (rw c.in-Shift.is at c.in_ok-turn.ensures.start) ∙ c.work.invariant.clear free start,
-    )
-
 pub returns-in_err-choose-in-Choice-clause-pays : goal.returns-in_err-choose-in-Choice-clause-pays
 returns-in_err-choose-in-Choice-clause-pays g c = λ free.
     absurd ((rw c.in-Choice.is at c.in_ok-turn.ensures.pays) (c.work.invariant.pays free).unions)
-
-pub returns-in-Shift-2-clause-pays : goal.returns-in-Shift-2-clause-pays
-returns-in-Shift-2-clause-pays g c = λ free.
-    absurd ((rw c.in-Choice.is at c.in_ok-turn.ensures.pays) (c.work.invariant.pays free).unions)
-
-pub returns-clause-pays : goal.returns-clause-pays
-returns-clause-pays g c = λ free. (c.work.invariant.none, c.work.invariant.pays free, c.work.invariant.clear free)
