@@ -3,15 +3,16 @@ use Rattle.std.proofs.Common.{◌≡◌, ◌∙◌, ◌+◌, ◌<◌, ◌≤◌,
 use Rattle.std.proofs.Common.{List, [], ◌∷◌, ◌++◌, length, drop, take, get_or, replicate, inl, inr}
 use Rattle.std.proofs.Math.Seq.{take-append_seam}
 use Rattle.std.proofs.lemmas.Bool.{cases_lt}
-use Rattle.std.proofs.lemmas.List.{at_drop_all, at_drop_more, get_or_append_left, get_or_push, get_or-replicate, length_push, length-replicate}
+use Rattle.std.proofs.lemmas.List.{at_drop_all, at_drop_more, get_or_append_left, get_or_push, get_or-replicate}
+use Rattle.std.proofs.lemmas.List.{length_push, length-replicate}
 use Rattle.std.proofs.lemmas.List.Folds.{list_any_more}
 use Rattle.std.specs.Global.{Vec}
-use Rattle.editor_config.specs.Patterns.{AreJoined, IsAtEach, Test, choice_then, fits_pieces, is_end, part_then, parts_then, piece_then}
+use Rattle.editor_config.specs.Patterns.{IsAtEach, IsUnion, Test, choice_then, fits_pieces, is_end, part_then, parts_then, piece_then}
 use Rattle.editor_config.specs.Said.{said_over, said_by_files, said_by_sections}
 use Rattle.editor_config.specs.declared.config.Config.{Config}
 use Rattle.editor_config.specs.declared.config.Section.{Section}
-use Rattle.editor_config.specs.declared.part.Part.{Part}
-use Rattle.editor_config.specs.declared.pattern.Piece.{Piece}
+use Rattle.editor_config.specs.declared.part.PatternPart.{PatternPart}
+use Rattle.editor_config.specs.declared.pattern.PatternPiece.{PatternPiece}
 use Rattle.editor_config.specs.declared.settings.Settings.{Settings}
 
 -- what stands in a list that was written whole
@@ -24,30 +25,30 @@ each_by text fits one other same = subst (λ (t : Test). IsAtEach t text fits) s
 
 module _ (text : List ℕ) (fits : List Bool) where
   -- no part, and one part more
-  pub no_parts : (parts : List Part) (place : ℕ) (rest : Test) → length parts ≤ place → IsAtEach rest text fits
+  pub no_parts : (parts : List PatternPart) (place : ℕ) (rest : Test) → length parts ≤ place → IsAtEach rest text fits
       → IsAtEach (parts_then (drop place parts) rest) text fits
   no_parts parts place rest all =
-      let F : List Part → Test = λ parts. parts_then parts rest in
+      let F : List PatternPart → Test = λ parts. parts_then parts rest in
       each_by text fits rest (F (drop place parts)) (sym (at_drop_all F parts place all))
 
-  pub parts_step : (parts : List Part) (place : ℕ) (rest : Test) (part : Part) → place < length parts → part ≡ get_or parts place part
-      → IsAtEach (part_then part (parts_then (drop (place + 1) parts) rest)) text fits
+  pub parts_step : (parts : List PatternPart) (place : ℕ) (rest : Test) (part : PatternPart) → place < length parts
+      → part ≡ get_or parts place part → IsAtEach (part_then part (parts_then (drop (place + 1) parts) rest)) text fits
       → IsAtEach (parts_then (drop place parts) rest) text fits
   parts_step parts place rest part lt is =
-      let F : List Part → Test = λ parts. parts_then parts rest in
-      let G : Part → Test = λ p. part_then p (F (drop (place + 1) parts)) in
+      let F : List PatternPart → Test = λ parts. parts_then parts rest in
+      let G : PatternPart → Test = λ p. part_then p (F (drop (place + 1) parts)) in
       each_by text fits (G part) (F (drop place parts)) (ap G is ∙ sym (at_drop_more F parts place part lt))
 
   -- no piece, and one piece more
-  pub no_pieces : (pieces : List Piece) (place : ℕ) → length pieces ≤ place → IsAtEach is_end text fits
+  pub no_pieces : (pieces : List PatternPiece) (place : ℕ) → length pieces ≤ place → IsAtEach is_end text fits
       → IsAtEach (fits_pieces (drop place pieces)) text fits
   no_pieces pieces place all = each_by text fits is_end (fits_pieces (drop place pieces)) (sym (at_drop_all fits_pieces pieces place all))
 
-  pub pieces_step : (pieces : List Piece) (place : ℕ) (piece : Piece) → place < length pieces → piece ≡ get_or pieces place piece
-      → IsAtEach (piece_then piece (fits_pieces (drop (place + 1) pieces))) text fits
+  pub pieces_step : (pieces : List PatternPiece) (place : ℕ) (piece : PatternPiece) → place < length pieces
+      → piece ≡ get_or pieces place piece → IsAtEach (piece_then piece (fits_pieces (drop (place + 1) pieces))) text fits
       → IsAtEach (fits_pieces (drop place pieces)) text fits
   pieces_step pieces place piece lt is =
-      let G : Piece → Test = λ p. piece_then p (fits_pieces (drop (place + 1) pieces)) in
+      let G : PatternPiece → Test = λ p. piece_then p (fits_pieces (drop (place + 1) pieces)) in
       each_by text fits (G piece) (fits_pieces (drop place pieces)) (ap G is ∙ sym (at_drop_more fits_pieces pieces place piece lt))
 
 -- at the end of a text, and nowhere else, nothing is left
@@ -79,16 +80,16 @@ none_of text made rest is =
     }
 
 -- one alternative more
-pub choice_step : (text : List ℕ) (alternatives : List (Vec Part)) (place : ℕ) (rest : Test) (parts : Vec Part)
+pub choice_step : (text : List ℕ) (alternatives : List (Vec PatternPart)) (place : ℕ) (rest : Test) (parts : Vec PatternPart)
     (before after joined : List Bool) → place < length alternatives → parts ≡ get_or alternatives place parts
-    → AreJoined before after joined → IsAtEach (choice_then (take place alternatives) rest) text before
+    → IsUnion before after joined → IsAtEach (choice_then (take place alternatives) rest) text before
     → IsAtEach (parts_then parts.items rest) text after
     → IsAtEach (choice_then (take (place + 1) alternatives) rest) text joined
 choice_step text alternatives place rest parts before after joined lt is both some own =
     record {
       long = both.long ∙ some.long;
       at = λ k within.
-          let P : Vec Part → Bool = λ parts. parts_then parts.items rest (drop k text) in
+          let P : Vec PatternPart → Bool = λ parts. parts_then parts.items rest (drop k text) in
           both.at k ∙ (ap₂ (λ (a : Bool) (b : Bool). a || b) (some.at k within) (own.at k within ∙ ap P is)
           ∙ sym (list_any_more P alternatives place parts lt));
     }

@@ -8,7 +8,7 @@ use Rattle.editor_config.specs.declared.settings.IndentSize.{IndentSize}
 use Rattle.editor_config.specs.declared.settings.IndentSize.TheVariants.{Columns, TabWidth}
 use Rattle.editor_config.specs.declared.settings.IndentStyle.{IndentStyle}
 use Rattle.editor_config.specs.declared.settings.IndentStyle.TheVariants.{Spaces, Tabs}
-use Rattle.editor_config.specs.declared.settings.LineEnd.{LineEnd}
+use Rattle.editor_config.specs.declared.settings.EndOfLine.{EndOfLine}
 use Rattle.editor_config.specs.declared.settings.Settings.{Settings}
 
 -- nothing is said
@@ -63,5 +63,5 @@ abbrev pub indent_of : Settings → Option ℕ
 indent_of settings = columns_of (uses_tabs settings) settings.indent_size (unwrap_or settings.tab_width None)
 
 -- what ends a line
-abbrev pub line_end_said : Settings → Option LineEnd
+abbrev pub line_end_said : Settings → Option EndOfLine
 line_end_said settings = unwrap_or settings.end_of_line None

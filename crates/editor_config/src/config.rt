@@ -3,7 +3,7 @@ ghost use Rattle.std.specs.Prelude.{◌≡◌, IfOk};
 ghost use Rattle.editor_config.specs.Said.{said_by_files, said_by_sections};
 
 use crate::glob::read_pattern;
-use crate::line::{Line, line_of};
+use crate::line::{ConfigLine, line_of};
 use crate::pattern::Pattern;
 use crate::settings::{Settings, is};
 use std::alloc::{AllocError, Global};
@@ -34,11 +34,11 @@ impl Config {
         let mut is_root = false;
         for line in text.lines() {
             match line_of(line) {
-                Line::Section(name) => sections.push(Section {
+                ConfigLine::Section(name) => sections.push(Section {
                     pattern: read_pattern(alloc, folder, name)?,
                     settings: Settings::silent(),
                 })?,
-                Line::Property { key, value } => match sections.last_mut() {
+                ConfigLine::Property { key, value } => match sections.last_mut() {
                     Some(section) => section.settings.set(key, value),
                     None => is_root = if is(key, "root") {
                         is(value, "true")
@@ -46,7 +46,7 @@ impl Config {
                         is_root
                     },
                 },
-                Line::Nothing => {}
+                ConfigLine::Nothing => {}
             }
         }
         Ok(Config { is_root, sections })

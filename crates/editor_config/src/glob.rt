@@ -1,31 +1,31 @@
 //! Reading the pattern of a section.
-use crate::part::{Part, Range};
-use crate::pattern::{Pattern, Piece};
+use crate::part::{PatternPart, Range};
+use crate::pattern::{Pattern, PatternPiece};
 use std::alloc::{AllocError, Global};
 
 /// A character of a pattern, which may be a sign, or stands for itself since a backslash is before it.
 #[derive(Clone, Copy, Debug, Drop, PartialEq, Eq)]
-enum Mark {
+enum GlobMark {
     Sign(char),
     Plain(char),
 }
 
-impl Mark {
+impl GlobMark {
     fn char(self) -> char {
         match self {
-            Mark::Sign(c) | Mark::Plain(c) => c,
+            GlobMark::Sign(c) | GlobMark::Plain(c) => c,
         }
     }
 }
 
-fn marks(alloc: Global, text: &str) -> Result<Vec<Mark>, AllocError> {
+fn marks(alloc: Global, text: &str) -> Result<Vec<GlobMark>, AllocError> {
     let mut marks = Vec::new(alloc);
     let mut is_escaped = false;
     for c in text.chars() {
         if is_escaped {
-            marks.push(Mark::Plain(c))?;
+            marks.push(GlobMark::Plain(c))?;
         } else if c != '\\' {
-            marks.push(Mark::Sign(c))?;
+            marks.push(GlobMark::Sign(c))?;
         }
         is_escaped = !is_escaped && c == '\\';
     }
@@ -38,8 +38,8 @@ fn only(c: char) -> Range {
 }
 
 // This character.
-fn character(alloc: Global, c: char) -> Result<Part, AllocError> {
-    Ok(Part {
+fn character(alloc: Global, c: char) -> Result<PatternPart, AllocError> {
+    Ok(PatternPart {
         repeats: false,
         others: false,
         ranges: vec![in alloc; only(c)]?,
@@ -47,8 +47,8 @@ fn character(alloc: Global, c: char) -> Result<Part, AllocError> {
 }
 
 // A character of a name, or any number of them.
-fn in_name(alloc: Global, repeats: bool) -> Result<Part, AllocError> {
-    Ok(Part {
+fn in_name(alloc: Global, repeats: bool) -> Result<PatternPart, AllocError> {
+    Ok(PatternPart {
         repeats,
         others: true,
         ranges: vec![in alloc; only('/')]?,
@@ -56,8 +56,8 @@ fn in_name(alloc: Global, repeats: bool) -> Result<Part, AllocError> {
 }
 
 // Any number of characters.
-fn anything(alloc: Global) -> Part {
-    Part {
+fn anything(alloc: Global) -> PatternPart {
+    PatternPart {
         repeats: true,
         others: true,
         ranges: Vec::new(alloc),
@@ -67,17 +67,17 @@ fn anything(alloc: Global) -> Part {
 /// A part at the beginning of marks, and how many of them spell it.
 #[derive(Drop)]
 struct PartAt {
-    part: Part,
+    part: PatternPart,
     len: usize,
 }
 
 // The ranges of a class: `-` between two members stands for those between them.
-fn ranges(alloc: Global, members: &[Mark]) -> Result<Vec<Range>, AllocError> {
+fn ranges(alloc: Global, members: &[GlobMark]) -> Result<Vec<Range>, AllocError> {
     let mut ranges = Vec::new(alloc);
     let mut rest = members;
     for _ in 0..members.len() {
         let (range, left) = match rest {
-            [first, Mark::Sign('-'), last, left @ ..] => (
+            [first, GlobMark::Sign('-'), last, left @ ..] => (
                 Range {
                     first: first.char(),
                     last: last.char(),
@@ -94,8 +94,8 @@ fn ranges(alloc: Global, members: &[Mark]) -> Result<Vec<Range>, AllocError> {
 }
 
 // The class that marks after a bracket are, if a bracket ends it and it has no slash.
-fn class_at(alloc: Global, marks: &[Mark]) -> Result<Option<PartAt>, AllocError> {
-    let end = marks.iter().position(|mark| *mark == Mark::Sign(']'));
+fn class_at(alloc: Global, marks: &[GlobMark]) -> Result<Option<PartAt>, AllocError> {
+    let end = marks.iter().position(|mark| *mark == GlobMark::Sign(']'));
     let Some(inside) = marks.get(..end.unwrap_or(0)) else {
         return Ok(None);
     };
@@ -103,14 +103,14 @@ fn class_at(alloc: Global, marks: &[Mark]) -> Result<Option<PartAt>, AllocError>
         return Ok(None);
     }
     let (others, members) = match inside {
-        [Mark::Sign('!'), members @ ..] => (true, members),
+        [GlobMark::Sign('!'), members @ ..] => (true, members),
         members => (false, members),
     };
     let mut ranges = ranges(alloc, members)?;
     if others {
         ranges.push(only('/'))?;
     }
-    let part = Part {
+    let part = PatternPart {
         repeats: false,
         others,
         ranges,
@@ -122,12 +122,12 @@ fn class_at(alloc: Global, marks: &[Mark]) -> Result<Option<PartAt>, AllocError>
 }
 
 // The first part of marks. A bracket that opens no class is itself.
-fn part_at(alloc: Global, marks: &[Mark]) -> Result<Option<PartAt>, AllocError> {
+fn part_at(alloc: Global, marks: &[GlobMark]) -> Result<Option<PartAt>, AllocError> {
     let (part, len) = match marks {
-        [Mark::Sign('*'), Mark::Sign('*'), ..] => (anything(alloc), 2),
-        [Mark::Sign('*'), ..] => (in_name(alloc, true)?, 1),
-        [Mark::Sign('?'), ..] => (in_name(alloc, false)?, 1),
-        [Mark::Sign('['), rest @ ..] => match class_at(alloc, rest)? {
+        [GlobMark::Sign('*'), GlobMark::Sign('*'), ..] => (anything(alloc), 2),
+        [GlobMark::Sign('*'), ..] => (in_name(alloc, true)?, 1),
+        [GlobMark::Sign('?'), ..] => (in_name(alloc, false)?, 1),
+        [GlobMark::Sign('['), rest @ ..] => match class_at(alloc, rest)? {
             Some(class) => return Ok(Some(class)),
             None => (character(alloc, '[')?, 1),
         },
@@ -138,7 +138,7 @@ fn part_at(alloc: Global, marks: &[Mark]) -> Result<Option<PartAt>, AllocError> 
 }
 
 // The parts of marks, one after the other.
-fn parts(alloc: Global, marks: &[Mark]) -> Result<Vec<Part>, AllocError> {
+fn parts(alloc: Global, marks: &[GlobMark]) -> Result<Vec<PatternPart>, AllocError> {
     let mut parts = Vec::new(alloc);
     let mut rest = marks;
     for _ in 0..marks.len() {
@@ -155,7 +155,10 @@ fn parts(alloc: Global, marks: &[Mark]) -> Result<Vec<Part>, AllocError> {
 const MOST_NUMBERS: i32 = 1000;
 
 // The numbers that two numbers with two dots between them stand for. Past a thousand they are left out.
-fn numbers(alloc: Global, inside: &[Mark]) -> Result<Option<Vec<Vec<Part>>>, AllocError> {
+fn numbers(
+    alloc: Global,
+    inside: &[GlobMark],
+) -> Result<Option<Vec<Vec<PatternPart>>>, AllocError> {
     let text: String = inside.iter().map(|mark| mark.char()).collect(alloc)?;
     let Some((first, last)) = text.as_str().split_once("..") else {
         return Ok(None);
@@ -178,12 +181,12 @@ fn numbers(alloc: Global, inside: &[Mark]) -> Result<Option<Vec<Vec<Part>>>, All
 }
 
 // What commas stand between, if there is one.
-fn listed(alloc: Global, marks: &[Mark]) -> Result<Option<Vec<Vec<Part>>>, AllocError> {
-    if !marks.contains(&Mark::Sign(',')) {
+fn listed(alloc: Global, marks: &[GlobMark]) -> Result<Option<Vec<Vec<PatternPart>>>, AllocError> {
+    if !marks.contains(&GlobMark::Sign(',')) {
         return Ok(None);
     }
     let mut listed = Vec::new(alloc);
-    for alternative in marks.split(|mark| *mark == Mark::Sign(',')) {
+    for alternative in marks.split(|mark| *mark == GlobMark::Sign(',')) {
         listed.push(parts(alloc, alternative)?)?;
     }
     Ok(Some(listed))
@@ -192,20 +195,20 @@ fn listed(alloc: Global, marks: &[Mark]) -> Result<Option<Vec<Vec<Part>>>, Alloc
 /// Alternatives at the beginning of marks, and how many of them spell these.
 #[derive(Drop)]
 struct ChoiceAt {
-    alternatives: Vec<Vec<Part>>,
+    alternatives: Vec<Vec<PatternPart>>,
     len: usize,
 }
 
 // The choice that marks after a brace are, if a brace ends it: two numbers, or texts with commas between them, and no other brace.
-fn braces_at(alloc: Global, marks: &[Mark]) -> Result<Option<ChoiceAt>, AllocError> {
-    let brace = |mark: &Mark| *mark == Mark::Sign('{') || *mark == Mark::Sign('}');
+fn braces_at(alloc: Global, marks: &[GlobMark]) -> Result<Option<ChoiceAt>, AllocError> {
+    let brace = |mark: &GlobMark| *mark == GlobMark::Sign('{') || *mark == GlobMark::Sign('}');
     let Some(end) = marks.iter().position(brace) else {
         return Ok(None);
     };
     let Some(inside) = marks.get(..end) else {
         return Ok(None);
     };
-    if marks.get(end) != Some(&Mark::Sign('}')) {
+    if marks.get(end) != Some(&GlobMark::Sign('}')) {
         return Ok(None);
     }
     let alternatives = match numbers(alloc, inside)? {
@@ -219,17 +222,17 @@ fn braces_at(alloc: Global, marks: &[Mark]) -> Result<Option<ChoiceAt>, AllocErr
 }
 
 // The choice at the beginning of marks, if there is one: braces, or folders in any number between two slashes.
-fn choice_at(alloc: Global, marks: &[Mark]) -> Result<Option<ChoiceAt>, AllocError> {
+fn choice_at(alloc: Global, marks: &[GlobMark]) -> Result<Option<ChoiceAt>, AllocError> {
     match marks {
-        [Mark::Sign('{'), rest @ ..] => braces_at(alloc, rest),
+        [GlobMark::Sign('{'), rest @ ..] => braces_at(alloc, rest),
         [
-            Mark::Sign('/'),
-            Mark::Sign('*'),
-            Mark::Sign('*'),
-            Mark::Sign('/'),
+            GlobMark::Sign('/'),
+            GlobMark::Sign('*'),
+            GlobMark::Sign('*'),
+            GlobMark::Sign('/'),
             ..
         ] => {
-            let none = parts(alloc, &[Mark::Sign('/')])?;
+            let none = parts(alloc, &[GlobMark::Sign('/')])?;
             let some = parts(alloc, marks.get(..4).unwrap_or(&[]))?;
             let alternatives = vec![in alloc; none, some]?;
             Ok(Some(ChoiceAt {
@@ -241,17 +244,21 @@ fn choice_at(alloc: Global, marks: &[Mark]) -> Result<Option<ChoiceAt>, AllocErr
     }
 }
 
-fn push_pieces(alloc: Global, pieces: &mut Vec<Piece>, marks: &[Mark]) -> Result<(), AllocError> {
+fn push_pieces(
+    alloc: Global,
+    pieces: &mut Vec<PatternPiece>,
+    marks: &[GlobMark],
+) -> Result<(), AllocError> {
     let mut rest = marks;
     for _ in 0..marks.len() {
         let len = if let Some(choice) = choice_at(alloc, rest)? {
-            pieces.push(Piece::Choice(choice.alternatives))?;
+            pieces.push(PatternPiece::Choice(choice.alternatives))?;
             choice.len
         } else {
             let Some(at) = part_at(alloc, rest)? else {
                 break;
             };
-            pieces.push(Piece::Part(at.part))?;
+            pieces.push(PatternPiece::Part(at.part))?;
             at.len
         };
         rest = rest.get(len..).unwrap_or(&[]);
@@ -269,7 +276,7 @@ const LONGEST: usize = 4096;
 pub(crate) fn read_pattern(alloc: Global, folder: &str, name: &str) -> Result<Pattern, AllocError> {
     let mut pieces = Vec::new(alloc);
     if name.len() > LONGEST {
-        pieces.push(Piece::Choice(Vec::new(alloc)))?;
+        pieces.push(PatternPiece::Choice(Vec::new(alloc)))?;
         return Ok(Pattern { pieces });
     }
     let below = if name.starts_with('/') {
@@ -280,7 +287,7 @@ pub(crate) fn read_pattern(alloc: Global, folder: &str, name: &str) -> Result<Pa
         "/**/"
     };
     for c in folder.chars() {
-        pieces.push(Piece::Part(character(alloc, c)?))?;
+        pieces.push(PatternPiece::Part(character(alloc, c)?))?;
     }
     let text = format!(in alloc; "{below}{name}")?;
     push_pieces(alloc, &mut pieces, &marks(alloc, text.as_str())?)?;

@@ -9,6 +9,6 @@ mod pattern;
 mod settings;
 
 pub use config::{Config, Section, settings_of};
-pub use part::{Part, Range};
-pub use pattern::{Pattern, Piece};
-pub use settings::{IndentSize, IndentStyle, LineEnd, Settings};
+pub use part::{PatternPart, Range};
+pub use pattern::{Pattern, PatternPiece};
+pub use settings::{EndOfLine, IndentSize, IndentStyle, Settings};

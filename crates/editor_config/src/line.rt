@@ -2,7 +2,7 @@
 
 /// What a line says.
 #[derive(Clone, Copy, Debug, Drop)]
-pub enum Line<'t> {
+pub enum ConfigLine<'t> {
     /// From here on properties are those of the files whose paths this pattern fits.
     Section(&'t str),
     /// A property and its value.
@@ -12,19 +12,21 @@ pub enum Line<'t> {
 }
 
 /// What a line says. Blanks around it, and around what it names, say nothing.
-pub fn line_of(text: &str) -> Line<'_> {
+pub fn line_of(text: &str) -> ConfigLine<'_> {
     let text = text.trim();
     if text.starts_with('#') || text.starts_with(';') {
-        return Line::Nothing;
+        return ConfigLine::Nothing;
     }
     if let Some(rest) = text.strip_prefix('[') {
-        return rest.strip_suffix(']').map_or(Line::Nothing, Line::Section);
+        return rest
+            .strip_suffix(']')
+            .map_or(ConfigLine::Nothing, ConfigLine::Section);
     }
     match text.split_once('=') {
-        Some((key, value)) => Line::Property {
+        Some((key, value)) => ConfigLine::Property {
             key: key.trim(),
             value: value.trim(),
         },
-        None => Line::Nothing,
+        None => ConfigLine::Nothing,
     }
 }

@@ -12,7 +12,7 @@ pub struct Range {
 
 /// A character of some, or any number of them.
 #[derive(Debug, Drop)]
-pub struct Part {
+pub struct PatternPart {
     /// Whether it is any number of characters, and not one.
     pub repeats: bool,
     /// Whether they are those outside the ranges, and not those in them.
@@ -31,7 +31,7 @@ fn is_among(ranges: &[Range], c: char) -> bool
     false
 }
 
-impl Part {
+impl PatternPart {
     fn takes(&self, c: char) -> bool
         ensures { result ≡ takes_character self.now c }
     {

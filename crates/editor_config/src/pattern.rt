@@ -1,25 +1,25 @@
 //! Patterns, and which paths they fit.
 ghost use Rattle.std.specs.Prelude.{◌≡◌, ◌+◌, IfOk, length};
-ghost use Rattle.editor_config.specs.Patterns.{AreJoined, IsAtEach, Test, choice_then, fits_pieces, parts_then};
+ghost use Rattle.editor_config.specs.Patterns.{IsAtEach, IsUnion, Test, choice_then, fits_pieces, parts_then};
 
-use crate::part::Part;
+use crate::part::PatternPart;
 use std::alloc::{AllocError, Global};
 
 /// A part, or one of several texts that are parts, one after the other.
 #[derive(Debug, Drop)]
-pub enum Piece {
-    Part(Part),
-    Choice(Vec<Vec<Part>>),
+pub enum PatternPiece {
+    Part(PatternPart),
+    Choice(Vec<Vec<PatternPart>>),
 }
 
 /// Pieces, one after the other.
 #[derive(Debug, Drop)]
 pub struct Pattern {
-    pub pieces: Vec<Piece>,
+    pub pieces: Vec<PatternPiece>,
 }
 
 /// From what fits from each place on, to what does after parts, one after the other.
-fn put_parts_before(parts: &[Part], path: &[char], fits: &mut [bool])
+fn put_parts_before(parts: &[PatternPart], path: &[char], fits: &mut [bool])
     requires { length fits.old ≡ length path.now + 1 }
     ensures { (rest : Test) → IsAtEach rest path.now fits.old → IsAtEach (parts_then parts.now rest) path.now fits.new }
 {
@@ -31,7 +31,7 @@ fn put_parts_before(parts: &[Part], path: &[char], fits: &mut [bool])
 /// Lets a place pass where it does in one of two lists.
 fn join(passes: &mut [bool], others: &[bool])
     requires { length passes.old ≡ length others.now }
-    ensures { AreJoined passes.old others.now passes.new }
+    ensures { IsUnion passes.old others.now passes.new }
 {
     for place in 0..passes.len() {
         passes[place] = passes[place] || others[place];
@@ -43,7 +43,7 @@ fn join(passes: &mut [bool], others: &[bool])
 /// `AllocError` where memory is refused.
 fn before_choice(
     alloc: Global,
-    alternatives: &[Vec<Part>],
+    alternatives: &[Vec<PatternPart>],
     path: &[char],
     fits: &[bool],
 ) -> Result<Vec<bool>, AllocError>
@@ -71,8 +71,8 @@ impl Pattern {
         fits.push(true)?;
         for place in (0..self.pieces.len()).rev() {
             match &self.pieces[place] {
-                Piece::Part(part) => part.put_before(path, &mut fits),
-                Piece::Choice(alternatives) => fits = before_choice(
+                PatternPiece::Part(part) => part.put_before(path, &mut fits),
+                PatternPiece::Choice(alternatives) => fits = before_choice(
                     alloc,
                     alternatives,
                     path,

@@ -19,7 +19,7 @@ pub enum IndentSize {
 
 /// What ends a line.
 #[derive(Clone, Copy, Debug, Drop, PartialEq, Eq)]
-pub enum LineEnd {
+pub enum EndOfLine {
     Lf,
     CrLf,
     Cr,
@@ -35,7 +35,7 @@ pub struct Settings {
     pub tab_width: Option<Option<u32>>,
     /// In columns, the greatest number where lines have no limit.
     pub max_line_length: Option<Option<usize>>,
-    pub end_of_line: Option<Option<LineEnd>>,
+    pub end_of_line: Option<Option<EndOfLine>>,
 }
 
 // Whether these are the same word, in capitals or not.
@@ -71,13 +71,13 @@ fn line_length(value: &str) -> Option<usize> {
     }
 }
 
-fn line_end(value: &str) -> Option<LineEnd> {
+fn line_end(value: &str) -> Option<EndOfLine> {
     if is(value, "lf") {
-        Some(LineEnd::Lf)
+        Some(EndOfLine::Lf)
     } else if is(value, "crlf") {
-        Some(LineEnd::CrLf)
+        Some(EndOfLine::CrLf)
     } else if is(value, "cr") {
-        Some(LineEnd::Cr)
+        Some(EndOfLine::Cr)
     } else {
         None
     }
@@ -152,7 +152,7 @@ impl Settings {
     }
 
     /// What ends a line, where it is said.
-    pub fn line_end(self) -> Option<LineEnd>
+    pub fn line_end(self) -> Option<EndOfLine>
         ensures { result ≡ line_end_said self }
     {
         self.end_of_line.unwrap_or(None)

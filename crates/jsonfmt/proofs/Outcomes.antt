@@ -1,13 +1,13 @@
 -- Lines that came out, and one more.
-use Rattle.std.proofs.Common.{◌≡◌, refl, sym, ◌∙◌, ap, ap₂, subst, ℕ, ◌+◌, ◌<◌, Bor, Bool, true, false, ◌||◌, List, [], ◌∷◌, ◌++◌, append-nil}
-use Rattle.std.proofs.Common.{map, flat_map, take, length, get_or}
+use Rattle.std.proofs.Common.{◌≡◌, refl, sym, ◌∙◌, ap, ap₂, subst, ℕ, ◌+◌, ◌<◌, Bor, Bool, true, false, ◌||◌, List, [], ◌∷◌, ◌++◌}
+use Rattle.std.proofs.Common.{append-nil, map, flat_map, take, length, get_or}
 use Rattle.std.specs.List.{All, list_any}
 use Rattle.std.proofs.lemmas.Grind.{flat_map-append}
 use Rattle.std.proofs.lemmas.List.{map_push, take_more}
 use Rattle.std.proofs.lemmas.List.Elements.{All-push}
 use Rattle.std.proofs.lemmas.List.Folds.{list_any-append}
 use Rattle.json_formatter.specs.declared.style.Style.{Style}
-use Rattle.jsonfmt.specs.Lines.{ComesOut, ComesOutBy, LaysLines, LineOutcome}
+use Rattle.jsonfmt.specs.Lines.{ComesOut, ComesOutBy, LaysEachLine, LineOutcome}
 
 or_false : (b : Bool) → (b || false) ≡ b
 or_false true = refl
@@ -15,8 +15,8 @@ or_false false = refl
 
 -- one line more, which came out so
 pub lay_more : (style : Style) (lines more : List (List ℕ)) (line layout whole here : List ℕ) (a b c : Bool)
-    → LaysLines style lines a layout → ComesOutBy style line b here → more ≡ lines ++ line ∷ [] → c ≡ (a || b) → whole ≡ layout ++ here
-    → LaysLines style more c whole
+    → LaysEachLine style lines a layout → ComesOutBy style line b here → more ≡ lines ++ line ∷ [] → c ≡ (a || b) → whole ≡ layout ++ here
+    → LaysEachLine style more c whole
 lay_more style lines more line layout whole here a b c laid one is_more is_refused is_whole =
     let o : LineOutcome = record { line = line; refused = b; layout = here } in
     let os = laid.outcomes in

@@ -37,7 +37,7 @@ abbrev pub ComesOut : Style → LineOutcome → Type 0
 ComesOut style o = ComesOutBy style o.line o.refused o.layout
 
 -- These lines are laid out as these bytes, but for those that are refused.
-pub record LaysLines (style : Style) (lines : List (List ℕ)) (refused : Bool) (layout : List ℕ) : Type 0 where
+pub record LaysEachLine (style : Style) (lines : List (List ℕ)) (refused : Bool) (layout : List ℕ) : Type 0 where
   pub outcomes : List LineOutcome
   pub each : All (ComesOut style) outcomes
   pub of_lines : map (λ o. o.line) outcomes ≡ lines
@@ -46,7 +46,7 @@ pub record LaysLines (style : Style) (lines : List (List ℕ)) (refused : Bool) 
 
 -- the same of the lines of a text, in the style for them
 abbrev pub LaysLinesOf : Style → List ℕ → Bool → List ℕ → Type 0
-LaysLinesOf style text refused layout = LaysLines (line_style style text) (lines_of text) refused layout
+LaysLinesOf style text refused layout = LaysEachLine (line_style style text) (lines_of text) refused layout
 
 -- by its answer, what a writer holds goes from old to new: what the lines are laid out as is appended, but for those that are refused
 abbrev pub WritesLines : Style → List ℕ → Option (List ℕ) → Option (List ℕ) → Result Verdict LayoutError → Type 0

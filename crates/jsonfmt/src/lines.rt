@@ -1,8 +1,8 @@
 //! Texts that have a JSON text on each line.
 ghost use Rattle.std.specs.Prelude.{◌≡◌, IfOk, map};
-ghost use Rattle.jsonfmt.specs.Lines.{AppendsLine, LaysLines, lines_of};
+ghost use Rattle.jsonfmt.specs.Lines.{AppendsLine, LaysEachLine, lines_of};
 
-use crate::refusal::{Source, refuse, refuse_depth};
+use crate::refusal::{Origin, refuse, refuse_depth};
 use json_formatter::{FormatError, Style, format};
 use json_lexemes::Lexer;
 use std::alloc::{AllocError, Global};
@@ -31,7 +31,7 @@ fn without_return(line: &[u8]) -> &[u8] {
 // Appends the layout of a line, or says why the line is refused. Whether it is refused.
 fn push_line<R: AllocGlobal + Eprint>(
     rt: &R,
-    source: Source<'_>,
+    origin: Origin<'_>,
     line: &[u8],
     style: Style,
     layout: &mut Vec<u8>,
@@ -39,7 +39,7 @@ fn push_line<R: AllocGlobal + Eprint>(
     ensures { IfOk result (AppendsLine style line.now layout.old.items layout.new.items) }
 {
     let Ok(text) = from_utf8(line) else {
-        refuse(rt, source, without_return(line))?;
+        refuse(rt, origin, without_return(line))?;
         return Ok(true);
     };
     if Lexer::new(text).next().is_none() {
@@ -48,11 +48,11 @@ fn push_line<R: AllocGlobal + Eprint>(
     match format(rt.alloc(), text, style, layout) {
         Ok(()) => Ok(false),
         Err(FormatError::NotJson) => {
-            refuse(rt, source, without_return(line))?;
+            refuse(rt, origin, without_return(line))?;
             Ok(true)
         }
         Err(FormatError::TooDeep) => {
-            refuse_depth(rt, source, text, style.depth)?;
+            refuse_depth(rt, origin, text, style.depth)?;
             Ok(true)
         }
         Err(FormatError::Memory(error)) => Err(io::Error::from(error)),
@@ -68,14 +68,14 @@ pub fn lay_lines<R: AllocGlobal + Eprint>(
     text: &[u8],
     style: Style,
 ) -> io::Result<LaidLines>
-    ensures { IfOk result (λ laid. LaysLines style (lines_of text.now) laid.refused laid.layout.items) }
+    ensures { IfOk result (λ laid. LaysEachLine style (lines_of text.now) laid.refused laid.layout.items) }
 {
     let lines = lines_of(rt.alloc(), text)?;
     let mut layout = Vec::new(rt.alloc());
     let mut refused = false;
     for (lines_before, line) in lines.iter().enumerate() {
-        let source = Source::of_line(name, lines_before);
-        let is_refused = push_line(rt, source, *line, style, &mut layout)?;
+        let origin = Origin::of_line(name, lines_before);
+        let is_refused = push_line(rt, origin, *line, style, &mut layout)?;
         refused = refused || is_refused;
     }
     Ok(LaidLines { layout, refused })

@@ -18,10 +18,10 @@ mod request;
 mod words;
 
 use crate::lines::lay_lines;
-use crate::refusal::{Source, refuse, refuse_depth};
+use crate::refusal::{Origin, refuse, refuse_depth};
 use crate::request::requested;
 use crate::words::TAB;
-use editor_config::Settings;
+use editor_config::{EndOfLine, Settings};
 use formatter_files::arguments::words;
 use formatter_files::ending::Ending;
 use formatter_files::files::lay_out_all;
@@ -36,10 +36,10 @@ use std::rt::Env;
 use std::str::from_utf8;
 
 // What ends lines: what an option asks for, or else what settings say.
-fn line_end(asked: LineEnd, said: Option<editor_config::LineEnd>) -> LineEnd {
+fn line_end(asked: LineEnd, said: Option<EndOfLine>) -> LineEnd {
     match (asked, said) {
-        (LineEnd::OfText, Some(editor_config::LineEnd::Lf)) => LineEnd::Lf,
-        (LineEnd::OfText, Some(editor_config::LineEnd::CrLf)) => LineEnd::CrLf,
+        (LineEnd::OfText, Some(EndOfLine::Lf)) => LineEnd::Lf,
+        (LineEnd::OfText, Some(EndOfLine::CrLf)) => LineEnd::CrLf,
         _ => asked,
     }
 }
@@ -73,13 +73,13 @@ impl Json {
     ) -> Result<Verdict, LayoutError>
         ensures { WritesLayout (IsFormatted self.now.style bytes.now) (W.contents writer.old) (W.contents writer.new) result }
     {
-        let source = Source::of_file(name);
+        let origin = Origin::of_file(name);
         if let Ok(text) = from_utf8(bytes) {
             match format(rt.alloc(), text, self.style, writer) {
                 Ok(()) => return Ok(Verdict::LaidOut),
                 Err(FormatError::NotJson) => {}
                 Err(FormatError::TooDeep) => {
-                    refuse_depth(rt, source, text, self.style.depth)?;
+                    refuse_depth(rt, origin, text, self.style.depth)?;
                     return Ok(Verdict::Refused);
                 }
                 Err(FormatError::Memory(error)) => {
@@ -88,7 +88,7 @@ impl Json {
                 Err(FormatError::Write(error)) => return Err(LayoutError::Writer(error)),
             }
         }
-        refuse(rt, source, bytes)?;
+        refuse(rt, origin, bytes)?;
         Ok(Verdict::Refused)
     }
 

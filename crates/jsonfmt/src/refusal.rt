@@ -5,9 +5,9 @@ use json_lexemes::Lexeme;
 use std::io;
 use text_places::Place;
 
-/// A text as messages name it and its places.
+/// Where a text is from, as messages name it and its places.
 #[derive(Clone, Copy, Drop)]
-pub struct Source<'n> {
+pub struct Origin<'n> {
     name: &'n str,
     /// How many lines of the file are before it.
     lines_before: usize,
@@ -15,10 +15,10 @@ pub struct Source<'n> {
     whole: &'static str,
 }
 
-impl<'n> Source<'n> {
+impl<'n> Origin<'n> {
     /// All of a file.
-    pub fn of_file(name: &'n str) -> Source<'n> {
-        Source {
+    pub fn of_file(name: &'n str) -> Origin<'n> {
+        Origin {
             name,
             lines_before: 0,
             whole: "text",
@@ -26,8 +26,8 @@ impl<'n> Source<'n> {
     }
 
     /// A line of a file, after so many.
-    pub fn of_line(name: &'n str, lines_before: usize) -> Source<'n> {
-        Source {
+    pub fn of_line(name: &'n str, lines_before: usize) -> Origin<'n> {
+        Origin {
             name,
             lines_before,
             whole: "line",
@@ -46,11 +46,11 @@ impl<'n> Source<'n> {
 // Says what stands there. It leaves the line open.
 fn say_found<R: Eprint>(
     rt: &R,
-    source: Source<'_>,
+    origin: Origin<'_>,
     found: Option<Lexeme<'_>>,
     expected: Expected,
 ) -> io::Result<()> {
-    let whole = source.whole;
+    let whole = origin.whole;
     match found {
         Some(Lexeme::String(_)) => eprint!(rt; ", found a string"),
         Some(lexeme) => say_word(rt, lexeme.text()),
@@ -60,13 +60,13 @@ fn say_found<R: Eprint>(
 }
 
 /// Says where the bytes stop being JSON, what was expected there, and what stands there.
-pub fn refuse<R: AllocGlobal + Eprint>(rt: &R, source: Source<'_>, bytes: &[u8]) -> io::Result<()> {
+pub fn refuse<R: AllocGlobal + Eprint>(rt: &R, origin: Origin<'_>, bytes: &[u8]) -> io::Result<()> {
     let fault = fault_of(rt.alloc(), bytes)?;
     let expected = fault.expected.name();
-    say_expected(rt, source.name, source.place(fault.place), expected)?;
-    say_found(rt, source, fault.found, fault.expected)?;
+    say_expected(rt, origin.name, origin.place(fault.place), expected)?;
+    say_found(rt, origin, fault.found, fault.expected)?;
     if let Some(place) = fault.opened {
-        say_opened(rt, source.place(place))?;
+        say_opened(rt, origin.place(place))?;
     }
     eprintln!(rt)
 }
@@ -74,14 +74,14 @@ pub fn refuse<R: AllocGlobal + Eprint>(rt: &R, source: Source<'_>, bytes: &[u8])
 /// Says which bracket of a JSON text is deeper in others than it may be.
 pub fn refuse_depth<R: AllocGlobal + Eprint>(
     rt: &R,
-    source: Source<'_>,
+    origin: Origin<'_>,
     text: &str,
     depth: usize,
 ) -> io::Result<()> {
     let fault = depth_fault(rt.alloc(), text, depth)?;
     let expected = format!(in rt.alloc(); "at most {depth} levels of nesting")?;
-    let place = source.place(fault.place);
-    say_expected(rt, source.name, place, expected.as_str())?;
-    say_found(rt, source, fault.found, fault.expected)?;
+    let place = origin.place(fault.place);
+    say_expected(rt, origin.name, place, expected.as_str())?;
+    say_found(rt, origin, fault.found, fault.expected)?;
     eprintln!(rt)
 }

@@ -1,6 +1,6 @@
 use Rattle.std.proofs.Common.{◌≡◌, ◌+◌, ◌-◌, sym, subst, arith, ℕ, Bool, false, List, drop, length, replicate}
 use Rattle.editor_config.specs.Patterns.{IsAtEach, Test, choice_then, fits_pieces, piece_then}
-use Rattle.editor_config.specs.declared.pattern.Piece.{Piece}
+use Rattle.editor_config.specs.declared.pattern.PatternPiece.{PatternPiece}
 use Rattle.editor_config.proofs.Steps.{ended, no_pieces, pieces_step, written}
 use Rattle.editor_config.proofs.pattern.Pattern.fits.Goals as goal
 
@@ -24,7 +24,7 @@ loop-place-preserved-in-Part c =
     let given : IsAtEach rest path c.deref_mut.result.now =
     subst (λ (l : List Bool). IsAtEach rest path l) (sym c.deref_mut.ensures.value) c.loop-place.invariant in
     let own : IsAtEach (piece_then piece rest) path after =
-    subst (λ (p : Piece). IsAtEach (piece_then p rest) path after) (sym c.in-Part.is) (c.put_before.ensures rest given) in
+    subst (λ (p : PatternPiece). IsAtEach (piece_then p rest) path after) (sym c.in-Part.is) (c.put_before.ensures rest given) in
     let here : IsAtEach (piece_then piece (fits_pieces (drop (place + 1) pieces))) path after =
     subst (λ (n : ℕ). IsAtEach (piece_then piece (fits_pieces (drop n pieces))) path after) next own in
     subst (λ (l : List Bool). IsAtEach (fits_pieces (drop place pieces)) path l)
@@ -46,7 +46,7 @@ loop-place-preserved c =
     subst (λ alternatives. IsAtEach (choice_then alternatives rest) path after) c.deref.ensures.value
     (c.in_ok-fits-in-Choice.ensures rest given) in
     let own : IsAtEach (piece_then piece rest) path after =
-    subst (λ (p : Piece). IsAtEach (piece_then p rest) path after) (sym c.in-Choice.is) chosen in
+    subst (λ (p : PatternPiece). IsAtEach (piece_then p rest) path after) (sym c.in-Choice.is) chosen in
     let here : IsAtEach (piece_then piece (fits_pieces (drop (place + 1) pieces))) path after =
     subst (λ (n : ℕ). IsAtEach (piece_then piece (fits_pieces (drop n pieces))) path after) next own in
     pieces_step path after pieces place piece (omega arith) c.index.ensures here

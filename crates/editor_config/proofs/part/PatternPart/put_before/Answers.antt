@@ -1,6 +1,6 @@
 use Rattle.std.proofs.Common.{sym, subst, Bool, if◌then◌else◌}
 use Rattle.editor_config.specs.Patterns.{IsAtEach, Test, many_then, one_then, takes_character}
-use Rattle.editor_config.proofs.part.Part.put_before.Goals as goal
+use Rattle.editor_config.proofs.part.PatternPart.put_before.Goals as goal
 
 -- the test of a part that repeats, or of one that does not
 abbrev by : (many one : Test) → Bool → Test

@@ -1,6 +1,6 @@
 use Rattle.editor_config.specs.Patterns.{IsAtEach, Test, one_then, takes_character}
 use Rattle.editor_config.proofs.Passing.{IsTurnedAt}
-use Rattle.editor_config.proofs.part.Part.put_one_before.Given as goal
+use Rattle.editor_config.proofs.part.PatternPart.put_one_before.Given as goal
 
 -- done below this place
 abbrev pub invariant-loop-place : goal.invariant-loop-place

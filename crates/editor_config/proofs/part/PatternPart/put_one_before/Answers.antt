@@ -2,8 +2,8 @@ use Rattle.std.proofs.Common.{◌≡◌, ◌∙◌, ◌+◌, ◌&&◌, sym, ap, 
 use Rattle.std.proofs.lemmas.List.{get_or_default}
 use Rattle.editor_config.specs.Patterns.{one_then, takes_character}
 use Rattle.editor_config.proofs.Passing.{IsTurnedAt, one_end, one_step}
-use Rattle.editor_config.proofs.part.Part.put_one_before.Goals as goal
-use Rattle.editor_config.proofs.part.Part.put_one_before.Goals.{then-takes, else-takes}
+use Rattle.editor_config.proofs.part.PatternPart.put_one_before.Goals as goal
+use Rattle.editor_config.proofs.part.PatternPart.put_one_before.Goals.{then-takes, else-takes}
 
 pub loop-place-preserved : goal.loop-place-preserved
 loop-place-preserved c rest each =

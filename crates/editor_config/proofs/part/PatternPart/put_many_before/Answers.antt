@@ -2,8 +2,9 @@ use Rattle.std.proofs.Common.{◌≡◌, ◌∙◌, ◌+◌, ◌-◌, ◌&&◌, 
 use Rattle.std.proofs.lemmas.List.{get_or_default}
 use Rattle.editor_config.specs.Patterns.{many_then, takes_character}
 use Rattle.editor_config.proofs.Passing.{IsTurnedAt, many_step, turned_whole}
-use Rattle.editor_config.proofs.part.Part.put_many_before.Goals as goal
-use Rattle.editor_config.proofs.part.Part.put_many_before.Goals.{then-fits-place, else-fits-place+then-takes, else-fits-place+else-takes}
+use Rattle.editor_config.proofs.part.PatternPart.put_many_before.Goals as goal
+use Rattle.editor_config.proofs.part.PatternPart.put_many_before.Goals.{then-fits-place, else-fits-place+then-takes}
+use Rattle.editor_config.proofs.part.PatternPart.put_many_before.Goals.{else-fits-place+else-takes}
 
 pub loop-place-preserved : goal.loop-place-preserved
 loop-place-preserved c rest each =
