@@ -1,4 +1,5 @@
 pub mod Compared
 pub mod Differing
+pub mod Faults
 pub mod Given
 pub mod Read

@@ -1,9 +1,12 @@
--- The status that the program ends with.
-use Rattle.std.specs.Prelude.{ℕ}
+-- How the program ends, and its status.
+use Rattle.std.specs.Prelude.{◌≡◌, ◌⊎◌, ℕ}
+use Rattle.clap.specs.Words.{kind_of}
 use Rattle.clap.specs.declared.error.kind.ErrorKind.{ErrorKind}
 use Rattle.clap.specs.declared.error.kind.ErrorKind.TheVariants.{DisplayHelp, DisplayVersion, OutOfMemory}
 use Rattle.formatter_files.specs.declared.ending.Ending.{Ending}
 use Rattle.formatter_files.specs.declared.ending.Ending.TheVariants.{Good, Refused, BadWords, Failed}
+use Rattle.formatter_files.specs.declared.request_error.RequestError.{RequestError}
+use Rattle.formatter_files.specs.declared.request_error.RequestError.TheVariants.{Words, Conflict}
 
 -- the program's status
 abbrev pub status_of : Ending → ℕ
@@ -18,3 +21,8 @@ ending_after DisplayHelp = Good
 ending_after DisplayVersion = Good
 ending_after OutOfMemory = Failed
 ending_after _ = BadWords
+
+-- how the program may end where its words ask for nothing that is done: where a text is not printed, it failed
+abbrev pub EndsAfter : RequestError → Ending → Type 0
+EndsAfter (Words e) ending = (ending ≡ ending_after (kind_of e)) ⊎ (ending ≡ Failed)
+EndsAfter (Conflict c) ending = ending ≡ BadWords

@@ -4,6 +4,7 @@ pub mod Comparing
 pub mod Differences
 pub mod Editor
 pub mod Endings
+pub mod Faults
 pub mod Folders
 pub mod Heads
 pub mod Layouts

@@ -1,5 +1,6 @@
 -- What the words of a program that formats files ask for, by what `clap` reads in them.
 use Rattle.std.specs.Prelude.{◌≡◌, ◌≤◌, ℕ, ⊤, Bool, true, false, List, [], codes, map, Option, Some, None, unwrap_or, not, is_some}
+use Rattle.std.specs.Prelude.{Result, Ok}
 use Rattle.std.specs.Option.{option_map_or}
 use Rattle.std.specs.Str.{bytes_eq}
 use Rattle.std.specs.Str.Parse.{IsNumeral, digits_value, without_leading_plus}
@@ -7,6 +8,9 @@ use Rattle.clap.specs.Simple.{new_shape}
 use Rattle.clap.specs.Words.{App, Row, Rule, Text, all_of, first_of, new_rule, one_of, with_rule}
 use Rattle.clap.specs.declared.builder.action.ArgAction.TheVariants.{Append, SetTrue}
 use Rattle.clap.specs.declared.builder.value_parser.ValueParser.TheVariants.{Unsigned}
+use Rattle.formatter_files.specs.Actions.{action_of, report_of}
+use Rattle.formatter_files.specs.declared.action.Action.{Action}
+use Rattle.formatter_files.specs.declared.action.WriteConflict.{WriteConflict}
 use Rattle.formatter_files.specs.declared.task.Task.{Task}
 
 -- an option that takes no value
@@ -81,11 +85,13 @@ HasWidth rows = IsNumberUpTo most_64 (one_of (codes "width") rows)
 abbrev pub HasIndent : List Row → Type 0
 HasIndent rows = IsNumberUpTo most_32 (one_of (codes "indent") rows)
 
--- What is to become of the layouts, and of which files.
+-- what is to be done with layouts
+abbrev pub action_asked : List Row → Result Action WriteConflict
+action_asked rows = action_of (has_flag (codes "write") rows) (report_of (has_flag (codes "check") rows) (has_flag (codes "diff") rows))
+
+-- What is to become of layouts, and of which files.
 pub record IsTask (rows : List Row) (task : Task) : Type 0 where
-  pub check : task.check ≡ has_flag (codes "check") rows
-  pub diff : task.diff ≡ has_flag (codes "diff") rows
-  pub write : task.write ≡ has_flag (codes "write") rows
+  pub action : action_asked rows ≡ Ok task.action
   pub editorconfig : task.editorconfig ≡ not (has_flag (codes "no-editorconfig") rows)
   pub has_width : task.has_width ≡ is_some (first_of (codes "width") rows)
   pub has_indent : task.has_indent ≡ is_some (first_of (codes "indent") rows)

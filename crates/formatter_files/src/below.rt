@@ -40,8 +40,10 @@ pub(crate) fn lay_out_below<R: AllocGlobal + Files + Input + Eprint + Print, F: 
 ) -> io::Result<Ending> {
     let program = formatter.program();
     let mut paths = Vec::new(rt.alloc());
-    let opened = push_paths(rt, folder, &mut paths).map(|_| Ending::Good);
-    let mut all = ending_of(rt, program, folder, opened);
+    let mut all = match push_paths(rt, folder, &mut paths) {
+        Ok(()) => Ending::Good,
+        Err(error) => ending_of(rt, program, folder, Err(error)),
+    };
     for _ in 0..u64::MAX {
         let Some(path) = paths.pop() else { break };
         let outcome = visit(rt, formatter, task, path.as_str(), &mut paths);

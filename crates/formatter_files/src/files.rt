@@ -1,6 +1,4 @@
 //! Laying out files and folders, one after the other.
-ghost use Rattle.std.specs.Prelude.{◌≡◌, ◌⊎◌, IsTrue};
-
 use crate::below::lay_out_below;
 use crate::ending::Ending;
 use crate::formatter::Formatter;
@@ -45,32 +43,14 @@ fn lay_out_each<R: AllocGlobal + Files + Input + Eprint + Print, F: Formatter>(
     all
 }
 
-/// Says that files are not replaced where they are only compared.
-fn refuse_to_write<R: Eprint>(rt: &R, task: &Task<'_>) -> Ending
-    ensures { result ≡ Ending.BadWords }
-{
-    let other = if task.check { "--check" } else { "--diff" };
-    let _ = eprintln!(rt;
-        "error: the argument '--write' cannot be used with '{other}'\n\nFor more information, try '--help'."
-    );
-    Ending::BadWords
-}
-
 /// Lays out each of the files and those below folders, or standard input where none is named, and does with the layouts what is
 /// asked for. A file that is refused or fails is said on standard error, and the others are laid out all the same: the worst
 /// decides. Where standard output fails, that is the end, and no later file is read.
-///
-/// Where files are to be replaced and to be compared alone, this is said, and no file is read.
 pub fn lay_out_all<R: AllocGlobal + Files + Input + Eprint + Print, F: Formatter>(
     rt: &R,
     formatter: &F,
     task: &Task<'_>,
-) -> Ending
-    ensures { IsTrue task.now.write → (IsTrue task.now.check ⊎ IsTrue task.now.diff) → result ≡ Ending.BadWords }
-{
-    if task.write && (task.check || task.diff) {
-        return refuse_to_write(rt, task);
-    }
+) -> Ending {
     if task.files.is_empty() {
         lay_out_each(rt, formatter, task, &["-"])
     } else {

@@ -67,9 +67,14 @@ pub fn path_in(alloc: Global, folder: &[u8], name: &[u8]) -> Result<Vec<u8>, All
 // How many bytes of names are read at once. They have room for any name.
 const ROOM: usize = 4096;
 
+// The text of a path in a folder.
+fn path_text(alloc: Global, folder: &str, name: &[u8]) -> Result<String, AllocError> {
+    text_of(alloc, path_in(alloc, folder.as_bytes(), name)?)
+}
+
 /// The names in a folder in the order of the file system, with a NUL after each.
 fn listing<R: AllocGlobal + Files>(rt: &R, folder: &str) -> io::Result<Vec<u8>> {
-    let path = text_of(rt.alloc(), path_in(rt.alloc(), folder.as_bytes(), b"")?)?;
+    let path = path_text(rt.alloc(), folder, b"")?;
     let mut names = rt.open_dir(path.as_str())?;
     let mut listing = Vec::new(rt.alloc());
     let mut bytes = [0u8; ROOM];
@@ -94,8 +99,7 @@ pub(crate) fn push_paths<R: AllocGlobal + Files>(
     let listing = listing(rt, folder)?;
     let names = visited_in_order(rt.alloc(), &listing)?;
     for name in names.iter().rev() {
-        let path = path_in(rt.alloc(), folder.as_bytes(), *name)?;
-        paths.push(text_of(rt.alloc(), path)?)?;
+        paths.push(path_text(rt.alloc(), folder, *name)?)?;
     }
     Ok(())
 }

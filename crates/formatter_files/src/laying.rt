@@ -1,5 +1,6 @@
 //! Laying out a file, or standard input.
-ghost use Rattle.std.specs.Prelude.{◌≡◌, ◌⊎◌, IsTrue};
+ghost use Rattle.std.specs.Prelude.{◌≡◌};
+ghost use Rattle.formatter_files.specs.declared.action.Report.{Report};
 
 use crate::action::Action;
 use crate::editor::settings_for;
@@ -19,17 +20,16 @@ use std::io;
 fn lay_out<R: AllocGlobal + Files + Eprint + Print, F: Formatter>(
     rt: &R,
     formatter: &F,
-    task: &Task<'_>,
+    action: Action,
     source: SourceText<'_>,
 ) -> Result<Ending, FileError>
-    ensures { (IsTrue task.now.check ⊎ IsTrue task.now.diff) → result ≡ Ok Ending.Good
+    ensures { (report : Report) → action ≡ Action.Compare report → result ≡ Ok Ending.Good
         → F.IsLayout formatter.now source.entry.bytes.now source.entry.bytes.now }
 {
-    let replaces = task.write && source.read.is_some();
-    match Action::of(task.check || task.diff, replaces) {
-        Action::Compare => check(rt, formatter, task, source),
-        Action::Replace => Ok(rewrite(rt, formatter, source)?),
-        Action::Print => print(rt, formatter, source),
+    match action {
+        Action::Compare(report) => check(rt, formatter, report, source),
+        Action::Replace if source.read.is_some() => Ok(rewrite(rt, formatter, source)?),
+        Action::Replace | Action::Print => print(rt, formatter, source),
     }
 }
 
@@ -54,5 +54,5 @@ pub(crate) fn lay_out_file<R: AllocGlobal + Files + Input + Eprint + Print, F: F
         read,
     };
     let formatter = formatter.with_settings(settings(rt, task, file)?);
-    lay_out(rt, &formatter, task, source)
+    lay_out(rt, &formatter, task.action, source)
 }

@@ -21,6 +21,7 @@ pub mod outcome;
 mod printing;
 pub mod replace;
 mod report;
+pub mod request_error;
 mod rewriting;
 mod search;
 mod source;

@@ -16,18 +16,25 @@ pub fn say_expected<R: Eprint>(rt: &R, name: &str, place: Place, expected: &str)
     eprint!(rt; "{name}:{line}:{column}: expected {expected}")
 }
 
+// What a word is called that is not shown.
+fn hidden_name(word: &str) -> Option<&'static str> {
+    if word == "\n" || word == "\r" {
+        Some("the end of the line")
+    } else if word.starts_with('\u{FEFF}') {
+        Some("a byte order mark")
+    } else if word.len() > SHOWN {
+        Some("a long word")
+    } else {
+        None
+    }
+}
+
 /// Says which word stands there. It leaves the line open. It fails where standard error does.
 pub fn say_word<R: Eprint>(rt: &R, word: &str) -> io::Result<()> {
-    if word == "\n" || word == "\r" {
-        eprint!(rt; ", found the end of the line")
-    } else if word.starts_with('\u{FEFF}') {
-        eprint!(rt; ", found a byte order mark")
-    } else if word.len() > SHOWN {
-        eprint!(rt; ", found a long word")
-    } else if is_plain(word) {
-        eprint!(rt; ", found `{word}`")
-    } else {
-        eprint!(rt; ", found {word:?}")
+    match hidden_name(word) {
+        Some(name) => eprint!(rt; ", found {name}"),
+        None if is_plain(word) => eprint!(rt; ", found `{word}`"),
+        None => eprint!(rt; ", found {word:?}"),
     }
 }
 

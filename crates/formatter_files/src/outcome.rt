@@ -1,10 +1,13 @@
 //! How a file or a program came out: what is said of it, and the ending.
 ghost use Rattle.std.specs.Prelude.{◌≡◌, ◌⊎◌, IfErr, IfOk};
 ghost use Rattle.clap.specs.Words.{kind_of};
-ghost use Rattle.formatter_files.specs.Endings.{ending_after};
+ghost use Rattle.formatter_files.specs.Endings.{EndsAfter, ending_after};
 
+use crate::action::WriteConflict;
 use crate::ending::Ending;
+use crate::request_error::RequestError;
 use crate::source::name_of;
+use std::alloc::AllocError;
 use std::io;
 use std::io::ErrorKind;
 
@@ -20,6 +23,12 @@ pub(crate) enum FileError {
 impl From<io::Error> for FileError {
     fn from(error: io::Error) -> FileError {
         FileError::File(error)
+    }
+}
+
+impl From<AllocError> for FileError {
+    fn from(error: AllocError) -> FileError {
+        FileError::File(io::Error::from(error))
     }
 }
 
@@ -66,12 +75,30 @@ pub(crate) fn said<R: Eprint>(
     }
 }
 
-/// How the program ends where its words gave an error, after its message is printed; or that this failed.
-pub fn ending_after<R: Eprint + Print>(rt: &R, program: &str, error: &clap::Error) -> Ending
+/// How the program ends where files are to be replaced and to be compared alone, after this is said on standard error.
+fn ending_after_conflict<R: Eprint>(rt: &R, conflict: WriteConflict) -> Ending
+    ensures { result ≡ Ending.BadWords }
+{
+    let _ = eprintln!(rt; "error: {conflict}\n\nFor more information, try '--help'.");
+    Ending::BadWords
+}
+
+/// How the program ends after an error of its words, after its text is printed; or that this failed.
+fn ending_after_words<R: Eprint + Print>(rt: &R, program: &str, error: &clap::Error) -> Ending
     ensures { (result ≡ ending_after (kind_of error.now)) ⊎ (result ≡ Ending.Failed) }
 {
     match error.print(rt) {
         Ok(()) => Ending::after(error.kind()),
         Err(failure) => ending_without_output(rt, program, failure),
+    }
+}
+
+/// How the program ends where its words ask for nothing that is done, after the reason is printed.
+pub fn ending_after<R: Eprint + Print>(rt: &R, program: &str, error: &RequestError) -> Ending
+    ensures { EndsAfter error.now result }
+{
+    match error {
+        RequestError::Words(error) => ending_after_words(rt, program, error),
+        RequestError::Conflict(conflict) => ending_after_conflict(rt, *conflict),
     }
 }

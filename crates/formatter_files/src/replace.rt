@@ -121,7 +121,8 @@ fn take_name<R: Files>(
 
 /// Has the new file replace the old one, with its owner and its permissions. Other names of the old one (hard links) keep it.
 ///
-/// An error where any step fails, and where the old file is not as it was when it was read: then the old file is as it was, and no file is left beside it.
+/// An error where any step fails, and where the old file is not as it was when it was read: then the old file is as it was, and no
+/// file is left beside it.
 pub fn finish<R: Files>(rt: &R, new: NewFile<R::File>) -> io::Result<()> {
     let NewFile {
         file,

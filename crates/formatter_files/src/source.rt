@@ -1,6 +1,7 @@
 //! Texts that are to be laid out: of files, and of standard input.
 use crate::arguments::shown_of;
 use crate::stamp::Stamp;
+use std::alloc::Global;
 use std::fs::{Files, OpenFile};
 use std::io::{ErrorKind, Read};
 use std::{fs, io};
@@ -46,15 +47,18 @@ pub(crate) struct ReadText {
 }
 
 /// All of a file, in memory for as much as it is said to have, and one byte more to see its end.
+fn read_all<F: Read>(alloc: Global, file: &mut F, len: u64) -> io::Result<Vec<u8>> {
+    let room = usize::try_from(len).unwrap_or(usize::MAX).saturating_add(1);
+    let mut bytes = Vec::with_capacity(alloc, room)?;
+    file.read_to_end(&mut bytes)?;
+    Ok(bytes)
+}
+
 fn read_file<R: AllocGlobal + Files>(rt: &R, name: &str) -> io::Result<ReadText> {
     check_name(name)?;
     let mut file = fs::open(rt, name)?;
     let stamp = Stamp::of(&file.metadata()?);
-    let room = usize::try_from(stamp.len)
-        .unwrap_or(usize::MAX)
-        .saturating_add(1);
-    let mut bytes = Vec::with_capacity(rt.alloc(), room)?;
-    file.read_to_end(&mut bytes)?;
+    let bytes = read_all(rt.alloc(), &mut file, stamp.len)?;
     Ok(ReadText {
         bytes,
         read: Some(stamp),

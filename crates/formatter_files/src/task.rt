@@ -2,17 +2,14 @@
 ghost use Rattle.std.specs.Prelude.{◌≡◌};
 ghost use Rattle.formatter_files.specs.Editor.{unsaid};
 
+use crate::action::Action;
 use editor_config::Settings;
 
 /// What is to become of the layouts, and of which files.
 #[derive(Drop)]
 pub struct Task<'w> {
-    /// Whether each file is compared with its layout and named where it differs, and nothing is written to files.
-    pub check: bool,
-    /// Whether each file is compared with its layout, standard output has how it differs, and nothing is written to files.
-    pub diff: bool,
-    /// Whether files are replaced by their layouts, in place of writing these to standard output.
-    pub write: bool,
+    /// What is done with each layout.
+    pub action: Action,
     /// Whether `.editorconfig` files are read.
     pub editorconfig: bool,
     /// Whether the words say the width, and the indent. Then no other file does.

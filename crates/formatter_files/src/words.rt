@@ -1,9 +1,12 @@
 //! The options that programs which format files have in common.
-ghost use Rattle.std.specs.Prelude.{◌≡◌, IfOk, false, is_some};
+ghost use Rattle.std.specs.Prelude.{◌≡◌, IfErr, IfOk, false, is_some};
 ghost use Rattle.clap.specs.Words.{app_of, first_of, found_of, rows_of, rule_of};
-ghost use Rattle.formatter_files.specs.Words.{HasIndent, HasWidth, IsIndent, IsTask, IsWidth, files, flag, has_flag, number_rule};
-ghost use Rattle.formatter_files.specs.Words.{program, with_files, with_letter, with_numbers, with_width};
+ghost use Rattle.formatter_files.specs.Faults.{IsRequestError, IsOutOfMemory};
+ghost use Rattle.formatter_files.specs.Words.{HasIndent, HasWidth, IsIndent, IsTask, IsWidth, action_asked, files, flag, has_flag};
+ghost use Rattle.formatter_files.specs.Words.{number_rule, program, with_files, with_letter, with_numbers, with_width};
 
+use crate::action::{Action, Report, WriteConflict};
+use crate::request_error::RequestError;
 use crate::task::Task;
 use clap::builder::ValueParser;
 use clap::{Arg, ArgAction, ArgMatches, Command};
@@ -153,16 +156,25 @@ pub fn indent(matches: &ArgMatches<'_>) -> u32
     matches.get_one("indent").unwrap_or(2)
 }
 
-/// What is to become of the layouts, and of which files.
+/// What is to be done with layouts.
 ///
-/// `AllocError` where memory is refused.
-pub fn task<'w>(alloc: Global, matches: &ArgMatches<'w>) -> Result<Task<'w>, AllocError>
-    ensures { IfOk result (IsTask (rows_of (found_of matches.now))) }
+/// `WriteConflict` where `--write` is given with `--check` or `--diff`.
+fn action(matches: &ArgMatches<'_>) -> Result<Action, WriteConflict>
+    ensures { result ≡ action_asked (rows_of (found_of matches.now)) }
+{
+    let report = Report::of(has_flag(matches, "check"), has_flag(matches, "diff"));
+    Action::of(has_flag(matches, "write"), report)
+}
+
+/// What is to become of layouts, and of which files.
+///
+/// An error where `--write` is given with `--check` or `--diff`, and where memory is refused.
+pub fn task<'w>(alloc: Global, matches: &ArgMatches<'w>) -> Result<Task<'w>, RequestError>
+    ensures ok { IfOk result (IsTask (rows_of (found_of matches.now))) }
+    ensures err { IfErr result (IsRequestError IsOutOfMemory (rows_of (found_of matches.now))) }
 {
     Ok(Task {
-        check: has_flag(matches, "check"),
-        diff: has_flag(matches, "diff"),
-        write: has_flag(matches, "write"),
+        action: action(matches)?,
         editorconfig: !has_flag(matches, "no-editorconfig"),
         has_width: is_given(matches, "width"),
         has_indent: is_given(matches, "indent"),

@@ -5,6 +5,7 @@ use Rattle.std.specs.Str.{bytes_eq}
 use Rattle.clap.specs.Words.{App, HasKind, Kinds, Row, Rule, Text, fault_of, first_of, kind_of, matches_of, new_rule, one_of, with_rule}
 use Rattle.clap.specs.declared.error.Error.{Error}
 use Rattle.clap.specs.declared.error.kind.ErrorKind.TheVariants.{ArgumentConflict, ValueValidation}
+use Rattle.formatter_files.specs.Faults.{IsRequestError, IsOutOfMemory}
 use Rattle.formatter_files.specs.Words.{HasNumber, IsNumberUpTo, IsTask, IsWidth, flag, has_flag, most_32, number_rule, program}
 use Rattle.formatter_files.specs.Words.{with_files, with_letter, with_width}
 use Rattle.json_formatter.specs.declared.style.Fill.{Fill}
@@ -12,7 +13,8 @@ use Rattle.json_formatter.specs.declared.style.Fill.TheVariants as fills
 use Rattle.json_formatter.specs.declared.style.LineEnd.{LineEnd}
 use Rattle.json_formatter.specs.declared.style.LineEnd.TheVariants.{OfText, Lf, CrLf}
 use Rattle.json_formatter.specs.declared.style.Style.{Style}
-use Rattle.jsonfmt.specs.declared.request.Request.{Request}
+use Rattle.formatter_files.specs.declared.request_error.RequestError.{RequestError}
+use Rattle.jsonfmt.specs.declared.request.JsonRequest.{JsonRequest}
 
 -- how deep lists may be in one another at most
 abbrev pub most_levels : ℕ
@@ -124,6 +126,10 @@ breaks_texts rows =
 abbrev pub IsAtOdds : List Row → Type 0
 IsAtOdds rows = (has_lines rows ≡ true) × (breaks_texts rows ≡ true)
 
+-- each line is to be a text, and then it is not said how a text is broken
+abbrev pub AsksLines : List Row → Bool → Type 0
+AsksLines rows lines = (lines ≡ has_lines rows) × (lines ≡ true → breaks_texts rows ≡ false)
+
 -- ---- all
 
 -- How files are to be laid out.
@@ -137,10 +143,9 @@ pub record AsksStyle (rows : List Row) (style : Style) : Type 0 where
   pub depth : IsDepth rows style.depth
 
 -- What is asked for.
-pub record AsksForJson (rows : List Row) (asked : Request) : Type 0 where
+pub record AsksForJson (rows : List Row) (asked : JsonRequest) : Type 0 where
   pub style : AsksStyle rows asked.style
-  pub lines : asked.lines ≡ has_lines rows
-  pub unbroken : asked.lines ≡ true → breaks_texts rows ≡ false
+  pub lines : AsksLines rows asked.lines
   pub task : IsTask rows asked.task
 
 -- a word names no indent, no line end, or nothing that fills lines
@@ -151,6 +156,14 @@ NamesNothing rows = AsksNoIndent (indent_word rows) ⊎ ((line_end_of rows ≡ N
 abbrev pub AsksForNothing : List Row → Error → Type 0
 AsksForNothing rows e = (NamesNothing rows × (kind_of e ≡ ValueValidation)) ⊎ (IsAtOdds rows × (kind_of e ≡ ArgumentConflict))
 
--- an `Ok` comes only where `clap` has no error for the words, and an `Err` is one of those, or nothing is asked for
-abbrev pub AnswersWords : {T : Type 0} → List Text → Result T Error → Type 0
-AnswersWords words result = MatchResult result (λ _. faults words ≡ []) (λ e. HasKind (faults words) e ⊎ AsksForNothing (matches words) e)
+-- an error for what was read in the words: memory was refused, or nothing is asked for
+abbrev pub IsErrorFor : List Row → Error → Type 0
+IsErrorFor rows e = IsOutOfMemory e ⊎ AsksForNothing rows e
+
+-- an error for the words: `clap` has it, or nothing is asked for
+abbrev pub IsErrorOf : List Text → Error → Type 0
+IsErrorOf words e = HasKind (faults words) e ⊎ AsksForNothing (matches words) e
+
+-- an `Ok` comes only where `clap` has no error for the words, and an `Err` is one for them, or files are to be replaced and compared
+abbrev pub AnswersWords : {T : Type 0} → List Text → Result T RequestError → Type 0
+AnswersWords words result = MatchResult result (λ _. faults words ≡ []) (IsRequestError (IsErrorOf words) (matches words))

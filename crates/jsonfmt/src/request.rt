@@ -1,12 +1,14 @@
 //! What the words of `jsonfmt` ask for.
-ghost use Rattle.std.specs.Prelude.{◌≡◌, ◌⊎◌, IfErr, IfOk, map};
+ghost use Rattle.std.specs.Prelude.{◌≡◌, IfErr, IfOk, map};
 ghost use Rattle.clap.specs.Words.{app_of, found_of, kind_of, rows_of};
+ghost use Rattle.formatter_files.specs.Faults.{IsRequestError};
 ghost use Rattle.formatter_files.specs.Words.{HasWidth};
-ghost use Rattle.jsonfmt.specs.Words.{AnswersWords, AsksForJson, AsksForNothing, HasDepth, jsonfmt, matches};
+ghost use Rattle.jsonfmt.specs.Words.{AnswersWords, AsksForJson, AsksLines, AsksStyle, HasDepth, IsErrorFor, jsonfmt, matches};
 
 use crate::words::{breaking, depth, fill, indent, lettered, line_end, word};
 use clap::error::ErrorKind;
 use clap::{ArgMatches, Command, Error};
+use formatter_files::request_error::RequestError;
 use formatter_files::task::Task;
 use formatter_files::words::{
     flag, has_flag, number, program, task, width, with_files, with_width,
@@ -17,7 +19,7 @@ use std::convert::AsStr;
 
 /// What the words ask for.
 #[derive(Drop)]
-pub struct Request<'w> {
+pub struct JsonRequest<'w> {
     /// How files are laid out.
     pub style: Style,
     /// Whether each line of a file is a text of its own, laid out on one line.
@@ -89,13 +91,14 @@ fn refuse_breaking(alloc: Global, option: &str) -> Result<Error, AllocError>
     command(alloc)?.error(ErrorKind::ArgumentConflict, message.as_str())
 }
 
-/// What is asked for by what was read in the words.
-fn asked<'w>(alloc: Global, matches: &ArgMatches<'w>) -> Result<Request<'w>, Error>
+/// How files are laid out, by what was read in the words.
+///
+/// An error where a word names no indent, no line end or nothing that fills lines, and where memory is refused.
+fn style(alloc: Global, matches: &ArgMatches<'_>) -> Result<Style, Error>
     requires width { HasWidth (rows_of (found_of matches.now)) }
     requires depth { HasDepth (rows_of (found_of matches.now)) }
-    ensures ok { IfOk result (AsksForJson (rows_of (found_of matches.now))) }
-    ensures err { IfErr result (λ error. (kind_of error ≡ ErrorKind.OutOfMemory)
-        ⊎ AsksForNothing (rows_of (found_of matches.now)) error) }
+    ensures ok { IfOk result (AsksStyle (rows_of (found_of matches.now))) }
+    ensures err { IfErr result (IsErrorFor (rows_of (found_of matches.now))) }
 {
     let Some(indent) = indent(matches) else {
         return Err(refuse(alloc, matches.get_str("indent"), NO_INDENT)?);
@@ -106,34 +109,57 @@ fn asked<'w>(alloc: Global, matches: &ArgMatches<'w>) -> Result<Request<'w>, Err
     let Some(fill) = fill(matches) else {
         return Err(refuse(alloc, matches.get_str("fill"), NO_FILL)?);
     };
+    Ok(Style {
+        width: width(matches),
+        indent: indent.columns,
+        tabs: indent.tabs,
+        line_end,
+        fill,
+        blank_lines: has_flag(matches, "keep-blank-lines"),
+        compact: has_flag(matches, "compact"),
+        depth: depth(matches),
+    })
+}
+
+/// Whether each line of a file is a text of its own, by what was read in the words.
+///
+/// An error where it is said too how a text is broken into lines, and where memory is refused.
+fn lines(alloc: Global, matches: &ArgMatches<'_>) -> Result<bool, Error>
+    ensures ok { IfOk result (AsksLines (rows_of (found_of matches.now))) }
+    ensures err { IfErr result (IsErrorFor (rows_of (found_of matches.now))) }
+{
     let lines = has_flag(matches, "lines");
     if let Some(option) = breaking(matches) {
         if lines {
             return Err(refuse_breaking(alloc, option)?);
         }
     }
-    Ok(Request {
-        style: Style {
-            width: width(matches),
-            indent: indent.columns,
-            tabs: indent.tabs,
-            line_end,
-            fill,
-            blank_lines: has_flag(matches, "keep-blank-lines"),
-            compact: has_flag(matches, "compact"),
-            depth: depth(matches),
-        },
-        lines,
+    Ok(lines)
+}
+
+/// What is asked for by what was read in the words.
+fn asked<'w>(alloc: Global, matches: &ArgMatches<'w>) -> Result<JsonRequest<'w>, RequestError>
+    requires width { HasWidth (rows_of (found_of matches.now)) }
+    requires depth { HasDepth (rows_of (found_of matches.now)) }
+    ensures ok { IfOk result (AsksForJson (rows_of (found_of matches.now))) }
+    ensures err { let rows = rows_of (found_of matches.now) in IfErr result (IsRequestError (IsErrorFor rows) rows) }
+{
+    Ok(JsonRequest {
+        style: style(alloc, matches)?,
+        lines: lines(alloc, matches)?,
         task: task(alloc, matches)?,
     })
 }
 
 /// What the words ask for, of which the first names the program: what `clap` reads in them by the options of `jsonfmt`.
 ///
-/// Its error where they are not such words, where they ask for help or the version, where the indent is neither a number nor `tab`,
-/// the line end neither `lf` nor `crlf`, or what fills lines neither `numbers`, `all` nor `none`, and where it is said how a text is
-/// broken while each is a line: it has the text for the user.
-pub fn requested<'w, S: AsStr>(alloc: Global, words: &'w [S]) -> Result<Request<'w>, Error>
+/// An error where they are not such words, where they ask for help or the version, where the indent is neither a number nor `tab`,
+/// the line end neither `lf` nor `crlf`, or what fills lines neither `numbers`, `all` nor `none`, where it is said how a text is
+/// broken while each is a line, and where files are to be replaced and to be compared alone.
+pub fn requested<'w, S: AsStr>(
+    alloc: Global,
+    words: &'w [S],
+) -> Result<JsonRequest<'w>, RequestError>
     ensures ok { IfOk result (AsksForJson (matches (map S.text words.entry.now))) }
     ensures err { AnswersWords (map S.text words.entry.now) result }
 {

@@ -1,10 +1,12 @@
 //! What the words of `tomlfmt` ask for.
-ghost use Rattle.std.specs.Prelude.{◌≡◌, IfOk, map};
-ghost use Rattle.clap.specs.Words.{FailsBy, app_of, found_of, rows_of};
+ghost use Rattle.std.specs.Prelude.{◌≡◌, IfErr, IfOk, map};
+ghost use Rattle.clap.specs.Words.{app_of, found_of, rows_of};
+ghost use Rattle.formatter_files.specs.Faults.{IsRequestError, IsOutOfMemory};
 ghost use Rattle.formatter_files.specs.Words.{HasIndent, HasWidth};
-ghost use Rattle.tomlfmt.specs.Words.{AsksForToml, tomlfmt_faults, tomlfmt_matches, tomlfmt};
+ghost use Rattle.tomlfmt.specs.Words.{AnswersTomlWords, AsksForToml, tomlfmt, tomlfmt_matches};
 
-use clap::{ArgMatches, Command, Error};
+use clap::{ArgMatches, Command};
+use formatter_files::request_error::RequestError;
 use formatter_files::task::Task;
 use formatter_files::words::{
     flag, has_flag, indent, program, task, width, with_files, with_numbers,
@@ -15,7 +17,7 @@ use toml_formatter::Style;
 
 /// What the words ask for.
 #[derive(Drop)]
-pub struct Request<'w> {
+pub struct TomlRequest<'w> {
     /// How files are laid out.
     pub style: Style,
     /// What is to become of the layouts, and of which files.
@@ -34,12 +36,13 @@ fn command<'w>(alloc: Global) -> Result<Command<'w>, AllocError>
 }
 
 /// What is asked for by what was read in the words.
-fn asked<'w>(alloc: Global, matches: &ArgMatches<'w>) -> Result<Request<'w>, AllocError>
+fn asked<'w>(alloc: Global, matches: &ArgMatches<'w>) -> Result<TomlRequest<'w>, RequestError>
     requires width { HasWidth (rows_of (found_of matches.now)) }
     requires indent { HasIndent (rows_of (found_of matches.now)) }
-    ensures { IfOk result (AsksForToml (rows_of (found_of matches.now))) }
+    ensures ok { IfOk result (AsksForToml (rows_of (found_of matches.now))) }
+    ensures err { IfErr result (IsRequestError IsOutOfMemory (rows_of (found_of matches.now))) }
 {
-    Ok(Request {
+    Ok(TomlRequest {
         style: Style {
             width: width(matches),
             indent: indent(matches),
@@ -51,11 +54,15 @@ fn asked<'w>(alloc: Global, matches: &ArgMatches<'w>) -> Result<Request<'w>, All
 
 /// What the words ask for, of which the first names the program: what `clap` reads in them by the options of `tomlfmt`.
 ///
-/// Its error where they are not such words, and where they ask for help or the version: it has the text for the user.
-pub fn requested<'w, S: AsStr>(alloc: Global, words: &'w [S]) -> Result<Request<'w>, Error>
+/// An error where they are not such words, where they ask for help or the version, and where files are to be replaced and to be
+/// compared alone.
+pub fn requested<'w, S: AsStr>(
+    alloc: Global,
+    words: &'w [S],
+) -> Result<TomlRequest<'w>, RequestError>
     ensures ok { IfOk result (AsksForToml (tomlfmt_matches (map S.text words.entry.now))) }
-    ensures err { FailsBy (tomlfmt_faults (map S.text words.entry.now)) result }
+    ensures err { AnswersTomlWords (map S.text words.entry.now) result }
 {
     let matches = command(alloc)?.try_get_matches_from(words)?;
-    Ok(asked(alloc, &matches)?)
+    asked(alloc, &matches)
 }

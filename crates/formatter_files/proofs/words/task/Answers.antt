@@ -1,4 +1,4 @@
-use Rattle.std.proofs.Common.{ap, ◌∙◌, ◌≡◌, refl, codes, Option, Some, None, List, [], map, option_map, unwrap_or, Bor, not}
+use Rattle.std.proofs.Common.{rules, ap, ◌∙◌, ◌≡◌, refl, sym, codes, Option, Some, None, Ok, List, [], map, option_map, unwrap_or, Bor, not}
 use Rattle.clap.proofs.WalkLemmas.{raw_values-rows}
 use Rattle.clap.specs.Words.{Text, found_of}
 use Rattle.formatter_files.proofs.words.task.Goals as goal
@@ -12,14 +12,13 @@ listed : (got : Option (Bor (List (Bor Text)))) (none : Bor (List (Bor Text))) �
 listed None none empty = ap (map (λ file. file.now)) empty
 listed (Some files) none empty = refl
 
-pub returns : goal.returns
-returns c =
+pub returns-clause-ok : goal.returns-clause-ok
+returns-clause-ok c =
     let found = found_of c.args.matches.now in
+    let is : c.action.result ≡ Ok c.in_ok-action.field-0 = search rules in
     record {
-      check = c.has_flag.ensures;
-      diff = c.has_flag-2.ensures;
-      write = c.has_flag-3.ensures;
-      editorconfig = ap not c.has_flag-4.ensures;
+      action = sym c.action.ensures ∙ is;
+      editorconfig = ap not c.has_flag.ensures;
       has_width = c.is_given.ensures;
       has_indent = c.is_given-2.ensures;
       files = ap (λ (items : List (Bor Text)). map (λ file. file.now) items) c.in_ok-from_slice.ensures.items
