@@ -22,7 +22,6 @@ def folder_of(name):
 
 
 def program(name):
-    """The path of the proved program of this name."""
     path = f"{folder_of(name)}/out/{name}"
     if not is_left(path, name):
         # It runs then, and its own status says nothing of the proof.
@@ -37,13 +36,9 @@ def builds(name):
     return [path, other] if is_left(other, name) else [path]
 
 
-def archive_of(name):
-    return f"{folder_of(name)}/out/lib{name}.a"
-
-
 def static_library(name=STATIC):
     """The path of the archive of this static library, which is proved."""
-    path = archive_of(name)
+    path = made_of(name)
     if not is_left(path, name) and not (are_left(below([name], crates_of())) and build_over_left(name)):
         make(["rt", "lib"], name, path)
     return path
@@ -51,15 +46,16 @@ def static_library(name=STATIC):
 
 def code(name=STATIC):
     """The path of what the toolchain hands to LLVM of this static library, which is proved."""
-    path = code_of(name)
+    path = made_of(name, "bc")
     static_library(name)
     if not is_left(path, name) and not build_over_left(name):
         raise Failed(f"{name} was not built over the libraries below it")
     return path
 
 
-def code_of(name):
-    return f"{folder_of(name)}/out/{name}.bc"
+def made_of(name, ending="a"):
+    """The path of the archive of a static library, or of its code, which ends in bc."""
+    return f"{folder_of(name)}/out/lib{name}.{ending}"
 
 
 # What stands in the repository
@@ -93,9 +89,9 @@ def make(words, name, path):
 
 def build_over_left(name):
     """Proves a static library over those that were left, and builds it and its code. Whether that was done."""
-    crates, keeps = crates_of(), f'for it in "$@"; do case "$it" in *.bc) cp "$it" "{code_of(name)}" ;; esac; done'
+    crates, code_at = crates_of(), made_of(name, "bc")
+    keeps = f'for it in "$@"; do case "$it" in *.bc) cp "$it" "{code_at}" ;; esac; done'
     os.makedirs(f"{folder_of(name)}/out", exist_ok=True)
     libraries = {it.name: it.rlib for it in below([name], crates)}
     with tempfile.TemporaryDirectory() as room:
-        _, status = prove_static(crates[name], libraries, archive_of(name), with_clang(f"{room}/toolchain", keeps))
-    return status == 0
+        return not prove_static(crates[name], libraries, made_of(name), with_clang(f"{room}/toolchain", keeps))[1]

@@ -1,6 +1,7 @@
 """What a command of tools/ is made of: its words, the programs that it runs, and how it ends."""
 
 import argparse
+import importlib
 import os
 import re
 import shutil
@@ -8,10 +9,13 @@ import subprocess
 import sys
 import tempfile
 from collections import namedtuple
+from pathlib import Path
 
 SUPPORT = os.path.dirname(os.path.abspath(__file__))
 ROOT = os.path.dirname(os.path.dirname(SUPPORT))
 
+# An option in a usage, whether its value may be left out, the value, and whether the option may come again.
+OPTION = re.compile(r"--(\w+)(?: (\[)?([A-Z]+)(?(2)\]))?(\]\.\.)?")
 # What a command printed, its status, and the seconds of processor that it took.
 Measured = namedtuple("Measured", "printed status seconds")
 
@@ -25,31 +29,40 @@ class Failed(Exception):
 
 
 class Reader(argparse.ArgumentParser):
-    """Reads the words of a command, whose help is its head: that says what each option means."""
+    """Reads the words of a command by the usage in its help: N is a number, an option before `].. ` may come again, and of two with
+    a bar between them one may come."""
 
     def __init__(self, about):
-        super().__init__(usage=re.search(r"^usage: (.*(?:\n {3,}.*)*)", about, re.M)[1])
-        self.about = about
+        usage = re.search(r"^usage: (.*(?:\n {3,}.*)*)", about, re.M)[1]
+        super().__init__(usage=usage)
+        self.about, either = about, self.add_mutually_exclusive_group()
+        self.set_defaults(error=self.error)
+        for it in OPTION.finditer(usage):
+            name, bracket, value, more = it.groups()
+            place = either if "|" in usage[it.start() - 2 : it.start()] + usage[it.end() : it.end() + 2] else self
+            how = {"type": int if value == "N" else str, "action": "append" if more else "store"} if value else {"action": "store_true"}
+            place.add_argument(f"--{name}", **how, **({"nargs": "?", "const": ""} if bracket else {}))
+        for bracket, name, more in re.findall(r"(\[)?\b([A-Z]+)\b(\.\.)?", OPTION.sub("", usage)):
+            many = {("[", ".."): "*", ("", ".."): "+", ("[", ""): "?"}.get((bracket, more))
+            self.add_argument(name.lower() + "s" * bool(more), nargs=many)
 
     def format_help(self):
         return self.about
 
 
-def begin(main, about):
-    """Runs a command to its end, whose status is what its `main` answers: none is 0. Of a failure it says what it was."""
-    name = os.path.basename(sys.argv[0])
+def begin(module, about):
+    """Runs the command of a module to its end, whose status is what `main` answers: none is 0. Of a failure it says what it was."""
     try:
-        sys.exit(main(about))
+        sys.exit(importlib.import_module(f"support.{module}").main(Reader(about).parse_args()))
     except (Failed, OSError, subprocess.SubprocessError) as failed:
-        sys.exit(f"{getattr(failed, 'printed', '')}{name}: {failed}")
+        sys.exit(f"{getattr(failed, 'printed', '')}{os.path.basename(sys.argv[0])}: {failed}")
 
 
 # Files
 
 
 def read(path):
-    with open(path, encoding="utf-8") as file:
-        return file.read()
+    return Path(path).read_text(encoding="utf-8")
 
 
 def content(path):
@@ -60,9 +73,17 @@ def content(path):
 def write(path, text):
     """Writes a file, in a folder that is made where it is not there. The path."""
     os.makedirs(os.path.dirname(path), exist_ok=True)
-    with open(path, "w", encoding="utf-8") as file:
-        file.write(text)
+    Path(path).write_text(text, encoding="utf-8")
     return path
+
+
+def put(path, to, mode=0o644):
+    """Copies a file to a place, where a running program may have the old one open."""
+    os.makedirs(os.path.dirname(to), exist_ok=True)
+    shutil.copyfile(path, f"{to}.new")
+    os.chmod(f"{to}.new", mode)
+    os.replace(f"{to}.new", to)
+    return to
 
 
 def link_all(folder, to):
@@ -78,10 +99,7 @@ def link_all(folder, to):
 def run(words, folder=ROOT, given=b"", seconds=None, **environment):
     """Runs a command, with what it is given on standard input. What it prints, and its status."""
     how = {"stdout": subprocess.PIPE, "stderr": subprocess.STDOUT, "timeout": seconds, "input": given}
-    try:
-        ended = subprocess.run(words, cwd=folder, env={**os.environ, **environment}, **how)
-    except (OSError, subprocess.TimeoutExpired) as error:
-        raise Failed(str(error)) from error
+    ended = subprocess.run(words, cwd=folder, env={**os.environ, **environment}, **how)
     return ended.stdout.decode(errors="replace"), ended.returncode
 
 
@@ -93,9 +111,11 @@ def output(words, *how, **more):
     return printed
 
 
-def status_of(ended):
-    """The status of a process that ended so, as a shell has it where a signal ended it."""
-    return 128 + os.WTERMSIG(ended) if os.WIFSIGNALED(ended) else os.WEXITSTATUS(ended)
+def ended(process):
+    """Waits for a process: its status, as a shell has it where a signal ended it, and the seconds of processor that it took."""
+    _, how, used = os.wait4(process.pid, 0)
+    process.returncode = 128 + os.WTERMSIG(how) if os.WIFSIGNALED(how) else os.WEXITSTATUS(how)
+    return process.returncode, used.ru_utime + used.ru_stime
 
 
 def measured(words, folder, begun=lambda process: None, **environment):
@@ -104,10 +124,9 @@ def measured(words, folder, begun=lambda process: None, **environment):
     with tempfile.TemporaryFile("w+", encoding="utf-8", errors="replace") as out:
         process = subprocess.Popen(words, cwd=folder, stdout=out, **how)
         begun(process)
-        _, ended, used = os.wait4(process.pid, 0)
-        process.returncode = status_of(ended)
+        status, seconds = ended(process)
         out.seek(0)
-        return Measured(out.read(), process.returncode, used.ru_utime + used.ru_stime)
+        return Measured(out.read(), status, seconds)
 
 
 def need(packages):

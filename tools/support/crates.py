@@ -1,6 +1,7 @@
 """The crates that crates.txt of a repository lists, and what a check of them reads."""
 
 import os
+import shutil
 from collections import namedtuple
 
 from support.command import ROOT
@@ -28,7 +29,6 @@ class Crate(namedtuple("Crate", "name folder line uses is_static")):
 
 
 def crates_of(root=ROOT):
-    """The crates of a repository, by name."""
     with open(f"{root}/crates.txt", encoding="utf-8") as lines:
         rows = [line.partition("#")[0].strip() for line in lines]
     found = {}
@@ -58,6 +58,21 @@ def with_below(names, crates):
     """These crates and those that they stand on, each once and after those that it uses."""
     every = [*below(names, crates), *(crates[name] for name in names)]
     return list({it.name: it for it in every}.values())
+
+
+def files_below(folder):
+    """The files below a folder, in an order that is the same everywhere."""
+    return sorted(f"{at}/{name}" for at, _, names in os.walk(folder) for name in names)
+
+
+def copy_parts(crate, to, parts=PARTS):
+    """Copies the files and folders of these names that a crate has into a folder."""
+    for path, copy in [(f"{crate.folder}/{it}", f"{to}/{it}") for it in parts]:
+        if os.path.isdir(path):
+            shutil.copytree(path, copy)
+        elif os.path.isfile(path):
+            os.makedirs(to, exist_ok=True)
+            shutil.copy(path, copy)
 
 
 def changed(path):

@@ -1,13 +1,12 @@
 """Commands one after the other, and a table of the time that each took."""
 
-import os
 import shlex
 import subprocess
 import sys
 import time
 from collections import namedtuple
 
-from support.command import Reader, status_of
+from support.command import ended
 from support.proof_times import ProofTimes
 
 # A command that was run: its status, and the seconds that it took, in all and by the kinds of proofs.
@@ -15,7 +14,6 @@ Part = namedtuple("Part", "command status clock processor proofs")
 
 
 def run(command):
-    """Runs a command to its end."""
     began = time.monotonic()
     try:
         started = subprocess.Popen(shlex.split(command))
@@ -24,19 +22,8 @@ def run(command):
         return Part(command, 127, 0, 0, {})
     times = ProofTimes(started.pid)
     times.start()
-    _, ended, usage = os.wait4(started.pid, 0)
-    started.returncode = status_of(ended)
-    return Part(command, started.returncode, time.monotonic() - began, usage.ru_utime + usage.ru_stime, times.stop())
-
-
-def run_in_turn(commands):
-    """The commands that were run: all of them, or those up to the first that failed."""
-    parts = []
-    for command in commands:
-        parts.append(run(command))
-        if parts[-1].status:
-            break
-    return parts
+    status, seconds = ended(started)
+    return Part(command, status, time.monotonic() - began, seconds, times.stop())
 
 
 def row(name, clock, processor):
@@ -50,18 +37,18 @@ def rows_of(part):
 
 
 def table(parts):
-    """The rows of each part, and one for all of them."""
     together = row("together", sum(it.clock for it in parts), sum(it.processor for it in parts))
     head = f"{'minutes of':<24}{'clock':>10}{'processor':>12}"
     return "\n".join([head, *(it for part in parts for it in rows_of(part)), together])
 
 
-def main(about):
-    reader = Reader(about)
-    reader.add_argument("commands", nargs="+")
-    parts = run_in_turn(reader.parse_args().commands)
+def main(options):
+    parts = []
+    for command in options.commands:
+        parts.append(run(command))
+        if parts[-1].status:
+            break
     print(f"\n{table(parts)}")
-    last = parts[-1]
-    if last.status:
-        print(f"in_turn: {last.command} failed, with status {last.status}")
-    return last.status
+    if parts[-1].status:
+        print(f"in_turn: {parts[-1].command} failed, with status {parts[-1].status}")
+    return parts[-1].status

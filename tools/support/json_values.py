@@ -27,7 +27,6 @@ def value_of(text):
 
 
 def flat(value):
-    """A value on one line."""
     if isinstance(value, Members):
         return "{" + ", ".join(f"{key}: {flat(it)}" for key, it in value) + "}"
     if isinstance(value, list):

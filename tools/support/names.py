@@ -5,7 +5,7 @@ import glob
 import os
 import re
 
-from support.command import ROOT, SUPPORT, Reader, read
+from support.command import ROOT, SUPPORT, read
 
 NAME = r"([A-Za-z][\w'?!-]*)"
 AT_MARGIN = re.compile(rf"(?:(?:pub|unfolding|unfoldable|pattern|abbrev|record|data) )*{NAME}(?: |$)")
@@ -23,7 +23,6 @@ KNOWN = f"{SUPPORT}/doubles.txt"
 
 
 def names_of(path):
-    """The names that a file of definitions defines."""
     found, in_block = set(), False
     for line in read(path).splitlines(keepends=True):
         in_block = line.startswith(BLOCK) or (in_block and line[0] in " \n")
@@ -33,9 +32,7 @@ def names_of(path):
 
 
 def files(pattern):
-    """The files of all crates that a pattern names, but for what was made."""
-    found = glob.glob(f"{ROOT}/crates/*/{pattern}", recursive=True)
-    return sorted(it for it in found if "/out/" not in it)
+    return sorted(it for it in glob.glob(f"{ROOT}/crates/*/{pattern}", recursive=True) if "/out/" not in it)
 
 
 def places_of(paths, names):
@@ -48,7 +45,6 @@ def places_of(paths, names):
 
 
 def doubles_of(places):
-    """The names of several files, with these."""
     return {name: paths for name, paths in sorted(places.items()) if len(paths) > 1}
 
 
@@ -76,17 +72,13 @@ def check_types(lists_all):
     for it, count in allowed.items():
         stands = len(found.get(it, [None]))
         if stands < count:
-            left = f"{stands} files" if stands > 1 else "one file"
-            print(f"{it[1]}, a type of {it[0]}, stands in {left} now, and {os.path.relpath(KNOWN, ROOT)} may say so")
+            print(f"{it[1]}, a type of {it[0]}, stands in fewer files now ({stands}), and {os.path.relpath(KNOWN, ROOT)} may say so")
     print(f"names: {len(found)} types stand for several things, {len(new)} of them anew")
     return len(new)
 
 
-def main(about):
-    reader = Reader(about)
-    reader.add_argument("--types", action="store_true")
-    new = check_types(reader.parse_args().types)
-    specs = files("specs/**/*.antt")
+def main(options):
+    new, specs = check_types(options.types), files("specs/**/*.antt")
     places = places_of(specs, names_of)
     twice = doubles_of(places)
     for name, paths in twice.items():

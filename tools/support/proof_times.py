@@ -4,6 +4,8 @@ import os
 import threading
 from collections import namedtuple
 
+from support.command import content
+
 # How many seconds go by between two looks. What a run takes after the last look at it is not counted.
 PAUSE = 1
 TICKS = os.sysconf("SC_CLK_TCK")
@@ -16,8 +18,7 @@ Process = namedtuple("Process", "parent start seconds")
 def process_of(number):
     """The process of this number, or None where it has ended."""
     try:
-        with open(f"/proc/{number}/stat", encoding="utf-8", errors="replace") as file:
-            fields = file.read().rpartition(")")[2].split()
+        fields = content(f"/proc/{number}/stat").rpartition(b")")[2].split()
     except OSError:
         return None
     return Process(int(fields[1]), fields[19], sum(map(int, fields[11:15])) / TICKS)
@@ -25,25 +26,18 @@ def process_of(number):
 
 def words_of(number):
     """The words of a process, if it is one of the prover."""
-    try:
-        with open(f"/proc/{number}/cmdline", "rb") as file:
-            words = file.read().split(b"\0")
-    except OSError:
-        return []
+    words = content(f"/proc/{number}/cmdline").split(b"\0")
     return words if os.path.basename(words[0]) == b"rattle" else []
 
 
 def kind_of(number):
     """What a process is there for, if it is one of the prover."""
     words = words_of(number)
-    try:
-        folder = os.path.basename(os.readlink(f"/proc/{number}/cwd"))
-    except OSError:
-        return None
     if not words:
         return None
     # rt tries an edit on a copy of the crate.
-    return "edits" if folder.startswith("rt-edit-") else "proofs of tests" if b"--test" in words else "proofs"
+    is_edit = os.path.basename(os.readlink(f"/proc/{number}/cwd")).startswith("rt-edit-")
+    return "edits" if is_edit else "proofs of tests" if b"--test" in words else "proofs"
 
 
 def crate_of(number):
@@ -75,26 +69,23 @@ class ProofTimes(threading.Thread):
     def look_below(self, number, found, below):
         """Does so from one process on. What the copies of a run take is part of that run."""
         for it in below.get(number, []):
-            kind = self.kind_of(it)
+            try:
+                kind = self.kind_of(it)
+            except OSError:  # The process has ended.
+                continue
             if kind:
                 self.seconds[it, found[it].start] = kind, taken(it, found, below)
             else:
                 self.look_below(it, found, below)
 
     def of(self, wanted):
-        """The seconds of one kind, up to now."""
         return sum(seconds for kind, seconds in list(self.seconds.values()) if kind == wanted)
 
     def stop(self):
-        """The seconds of each kind."""
         self.stopping.set()
         self.join()
-        sums = {}
-        for kind, seconds in self.seconds.values():
-            sums[kind] = sums.get(kind, 0) + seconds
-        return sums
+        return {kind: self.of(kind) for kind, _ in self.seconds.values()}
 
 
 def taken(number, found, below):
-    """The seconds of a process and of all below it."""
     return found[number].seconds + sum(taken(it, found, below) for it in below[number])

@@ -17,7 +17,6 @@ def need_rt():
 
 @functools.lru_cache(maxsize=None)
 def kit():
-    """The folder of the toolchain."""
     need_rt()
     return os.path.dirname(run(["rt", "doc"])[0].strip())
 

@@ -4,7 +4,7 @@ import re
 import subprocess
 from collections import namedtuple
 
-from support.command import ROOT, Reader, read, write
+from support.command import ROOT, read, write
 
 NUMBER = r"(\d[\w.+-]*)"
 
@@ -36,8 +36,7 @@ def version():
 
 
 def others():
-    """Each place that has another version or another number of them, and what it has."""
-    found = [(it, [found[2] for found in it.pattern.finditer(read(f"{ROOT}/{it.path}"))]) for it in PLACES]
+    found = [(it, [number for _, number in it.pattern.findall(read(f"{ROOT}/{it.path}"))]) for it in PLACES]
     return [(it.path, numbers) for it, numbers in found if numbers != [version()] * it.times]
 
 
@@ -50,29 +49,17 @@ def commit():
 
 
 def git(*words):
-    """What a command of git prints."""
-    how = {"stdout": subprocess.PIPE, "stderr": subprocess.DEVNULL, "universal_newlines": True}
-    return subprocess.run(["git", *words], cwd=ROOT, check=True, **how).stdout.strip()
+    return subprocess.check_output(["git", *words], cwd=ROOT, stderr=subprocess.DEVNULL, universal_newlines=True).strip()
 
 
-# tools/versions
-
-
-def set_all(new):
-    write(f"{ROOT}/VERSION", f"{new}\n")
-    for it in PLACES:
-        path = f"{ROOT}/{it.path}"
-        write(path, it.pattern.sub(lambda found: found[1] + new, read(path)))
-
-
-def main(about):
-    reader = Reader(about)
-    reader.add_argument("new", nargs="?")
-    new = reader.parse_args().new
+def main(options):
+    new = options.new
     if new and not re.fullmatch(r"\d+\.\d+\.\d+", new):
-        reader.error(f"{new} is no version")
+        options.error(f"{new} is no version")
     if new:
-        set_all(new)
+        write(f"{ROOT}/VERSION", f"{new}\n")
+        for path, pattern, _ in PLACES:
+            write(f"{ROOT}/{path}", pattern.sub(lambda found: found[1] + new, read(f"{ROOT}/{path}")))
     found = others()
     for path, numbers in found:
         print(f"{path}: {' '.join(numbers) or 'no version'}, and VERSION has {version()}")

@@ -2,14 +2,13 @@
 
 import glob
 import os
-import shutil
 import tempfile
 from concurrent.futures import ProcessPoolExecutor
 
 from support import built
 from support.cases.language import Beginning, cases_of
 from support.cases.runs import after, run
-from support.command import ROOT, SUPPORT, Reader, output
+from support.command import ROOT, SUPPORT, output, put
 from support.json_values import value_line
 
 CASES = f"{ROOT}/cases"
@@ -17,10 +16,6 @@ SHOWN = 400
 
 
 # Comparing
-
-
-def agrees(found, wanted):
-    return found.startswith(wanted) if isinstance(wanted, Beginning) else found == wanted
 
 
 def shown(value, begin=0):
@@ -39,7 +34,7 @@ def first_other(found, wanted):
 
 def difference(what, found, wanted):
     """A line for each of what was found and what is wanted, where they differ."""
-    if agrees(found, wanted):
+    if found.startswith(wanted) if isinstance(wanted, Beginning) else found == wanted:
         return []
     begin = first_other(found, wanted)
     return [f"{what} is {shown(found, begin)}\n    and not {shown(wanted, begin)}"]
@@ -69,8 +64,7 @@ def check_again(case, tools, ran):
 def check_value(case, _, ran):
     """What is written has the value of standard input, and is the line that has it where `value` says so."""
     written = ran.outcome["stdout"]
-    found = written if case["value"] == "on one line" else value_line(written)
-    return difference("value", found, value_line(case["stdin"]))
+    return difference("value", written if case["value"] == "on one line" else value_line(written), value_line(case["stdin"]))
 
 
 def check_failed(case, failed, written):
@@ -96,7 +90,6 @@ CHECKS = {"again": check_again, "value": check_value, "fails": check_failing}
 
 
 def check(case, tools):
-    """The differences of a case."""
     try:
         ran = run(case, tools)
         others = [CHECKS[kind](case, tools, ran) for kind in CHECKS if case[kind]]
@@ -108,31 +101,15 @@ def check(case, tools):
 # The programs
 
 
-def put(path, to):
-    """Copies a file to where any user may run it."""
-    os.makedirs(os.path.dirname(to), exist_ok=True)
-    shutil.copy(path, to)
-    for it in (os.path.dirname(to), to):
-        os.chmod(it, 0o755)
-
-
 def made_ready(names, folder, room):
     """Puts the programs, and what has calls fail, into folders of tools, one for each compiler that built them."""
+    os.umask(0o022)  # Any user may run what is copied here.
     os.chmod(room, 0o711)
     output(["gcc", "-O1", "-shared", "-fPIC", "-o", f"{room}/fail.so", f"{SUPPORT}/cases/fail.c", "-ldl"])
     for name in names:
         for number, path in enumerate([f"{folder}/{name}"] if folder else built.builds(name)):
-            put(path, f"{room}/{number}/{name}")
-            put(f"{room}/fail.so", f"{room}/{number}/fail.so")
-
-
-def cases_for(names):
-    """The cases of these programs."""
-    cases = []
-    for name in names:
-        for path in sorted(glob.glob(f"{CASES}/{name}/*.cases")):
-            cases += cases_of(path, name)
-    return cases
+            put(path, f"{room}/{number}/{name}", 0o755)
+            put(f"{room}/fail.so", f"{room}/{number}/fail.so", 0o755)
 
 
 def built_cases(cases, room):
@@ -153,18 +130,15 @@ def check_all(pairs):
     return bad
 
 
-def main(about):
-    reader = Reader(about)
-    reader.add_argument("--programs")
-    reader.add_argument("names", nargs="*")
-    options = reader.parse_args()
+def main(options):
     known = sorted(it.name for it in os.scandir(CASES) if it.is_dir())
     names = options.names or known
     if not set(names) <= set(known):
-        reader.error(f"the programs with cases are {', '.join(known)}")
+        options.error(f"the programs with cases are {', '.join(known)}")
     with tempfile.TemporaryDirectory() as room:
         made_ready(names, options.programs, room)
-        cases = cases_for(names)
+        paths = [(path, name) for name in names for path in sorted(glob.glob(f"{CASES}/{name}/*.cases"))]
+        cases = [case for path, name in paths for case in cases_of(path, name)]
         pairs = built_cases(cases, room)
         bad = check_all(pairs)
     print(f"programs: {len(cases):,} cases of {len(names)} programs, {len(pairs):,} with each build: {bad or 'none'} wrong")

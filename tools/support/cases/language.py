@@ -51,12 +51,13 @@ are Rust's, and \xHH any byte. Lines below a field are a text too: after "| ", w
 """
 
 import contextlib
+import functools
 import glob
 import os
 import re
 
 from support.cases.random_cases import random_cases
-from support.command import Failed
+from support.command import Failed, content
 
 STRING = r'"(?:[^"\\]|\\.)*"'
 REPEATED = rf"{STRING}(?: \* \d+)?"
@@ -108,7 +109,6 @@ DEFAULTS.update({it: {} for it in ("file", "pipe", "new", "link", "hard link", "
 
 
 def escaped(found):
-    """The bytes of one escape."""
     byte, code, letter = found.groups()
     if letter and letter not in ESCAPED:
         raise Failed(f"no escape: {found[0]}")
@@ -137,7 +137,6 @@ def text_of(value):
 
 
 def bytes_of(value):
-    """The bytes of quoted strings or of a bare word."""
     text = text_of(value)
     return text.encode() if isinstance(text, str) else text
 
@@ -146,24 +145,18 @@ def words_of(written):
     return [bytes_of(it) for it in VALUE.findall(written)]
 
 
-def names_of(written):
-    return written.split()
-
-
 def random_of(written):
-    """The random cases of a seed, and as many as are written."""
     return random_cases(*map(int, written.split())).encode()
 
 
 def failure_of(written):
-    """A status and a message."""
     status, message = VALUE.findall(written)
     return int(status), text_of(message)
 
 
 # How what stands behind each kind of field is read.
 READERS = {"words": words_of, "failure": failure_of, "random": random_of}
-READERS.update({it: names_of for it in ("calls", "changes", "fails", "passed over", "rows")})
+READERS.update({it: str.split for it in ("calls", "changes", "fails", "passed over", "rows")})
 READERS.update({it: text_of for it in ("stdin", "stdout", "stderr", "file", "pipe", "new")})
 READERS.update({it: int for it in ("status", "takes", "room")})
 READERS.update({it: bytes_of for it in ("link", "hard link")})
@@ -195,24 +188,18 @@ class Field:
 
 
 def fields_of(written):
-    fields = {}
-    for it in written:
-        fields = it.added_to(fields)
-    return fields
-
-
-def row_value(kind, value):
-    """The words of a row are one text with a space between each two."""
-    return bytes_of(value).split(b" ") if kind == "words" else READERS[kind](value)
+    return functools.reduce(lambda fields, it: it.added_to(fields), written, {})
 
 
 def row_of(case, place, line):
     """The case with the values of a row, which are those of the fields that `rows` names."""
     kinds, values = case["rows"], VALUE.findall(line)
+    # The words of a row are one text with a space between each two.
+    readers = {**READERS, "words": lambda text: bytes_of(text).split(b" ")}
     with naming(place):
         if len(values) != len(kinds):
             raise Failed(f"{len(values)} values, and {len(kinds)} are named")
-        return case.having(place, {kind: row_value(kind, value) for kind, value in zip(kinds, values)})
+        return case.having(place, {kind: readers[kind](value) for kind, value in zip(kinds, values)})
 
 
 class Part:
@@ -231,14 +218,12 @@ class Part:
 def parts_of(path):
     """The parts of a file, in groups, of which the first part has what the others have in common."""
     groups = []
-    with open(path, encoding="utf-8", newline="\n") as lines:
-        for number, line in enumerate(lines, 1):
-            take_line(groups, f"{path}:{number}", line[:-1])
+    for number, line in enumerate(content(path).decode().split("\n")[:-1], 1):
+        take_line(groups, f"{path}:{number}", line)
     return groups
 
 
 def take_line(groups, place, line):
-    """Adds what a line says."""
     if line.startswith("== "):
         groups.append([Part(place, line[3:])])
     elif not line or line[0] == "#":
@@ -257,7 +242,6 @@ def take_line(groups, place, line):
 
 
 def cases_of(path, program):
-    """The cases of a file, for this program."""
     cases = []
     for common, *parts in parts_of(path):
         fields = fields_of(common.written)
@@ -274,8 +258,5 @@ def with_texts(case, folder):
         return [case.having(case.place, {"stdin": case["random"]})]
     if not case["texts"]:
         return [case]
-    cases = []
-    for path in sorted(glob.glob(f"{folder}/{case['texts']}/*")):
-        with open(path, "rb") as text:
-            cases.append(case.having(f"{case.place} {os.path.basename(path)}", {"stdin": text.read()}))
-    return cases
+    paths = sorted(glob.glob(f"{folder}/{case['texts']}/*"))
+    return [case.having(f"{case.place} {os.path.basename(it)}", {"stdin": content(it)}) for it in paths]

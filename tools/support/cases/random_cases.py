@@ -1,11 +1,4 @@
-"""Makes random cases, in the language of docs/CASES.md: one a line, which states that it comes out alike in each way.
-
-usage: python3 tools/support/cases/random_cases.py SEED COUNT
-
-Python 3.8 or later.
-"""
-
-import sys
+"""Random cases, in the language of docs/CASES.md: one a line, which states that it comes out alike in each way."""
 
 # What stands more than once here comes more often.
 TEXTS = ["", "a", "b", "cd", "efg", "hij", "klmn", "opqr", " ", "stuvwx", "yz01234567", "é"]
@@ -98,9 +91,3 @@ def random_cases(seed, count):
         options = f"{dice.one_of(['lf', 'crlf'])} {dice.one_of(['eager', 'deferred'])}"
         lines.append(f"{width} {options} {document(dice)} =>\n")
     return "".join(lines)
-
-
-if __name__ == "__main__":
-    if len(sys.argv) != 3 or not all(it.isdecimal() for it in sys.argv[1:]):
-        sys.exit(__doc__)
-    sys.stdout.write(random_cases(*map(int, sys.argv[1:])))

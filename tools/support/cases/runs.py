@@ -8,6 +8,9 @@ import signal
 import stat
 import subprocess
 import tempfile
+from pathlib import Path
+
+from support.command import content
 
 NOBODY = 65534
 SECONDS = 60
@@ -18,7 +21,6 @@ STREAMS = ("stdin", "stdout", "stderr")
 
 
 def make_files(case):
-    """Makes the files of a case."""
     for name, text in case["file"].items():
         os.makedirs(os.path.dirname(name) or b".", exist_ok=True)
         with open(name, "wb") as file:
@@ -44,7 +46,6 @@ def make_pipe(name, text):
 
 
 def paths():
-    """All files and folders."""
     return [os.path.join(at, name)[2:] for at, folders, files in os.walk(b".") for name in [*folders, *files]]
 
 
@@ -58,10 +59,7 @@ def text_at(path):
     """The text of a file that may be read, or where a link leads."""
     if os.path.islink(path):
         return os.readlink(path)
-    if not os.path.isfile(path) or not os.access(path, os.R_OK):
-        return None
-    with open(path, "rb") as file:
-        return file.read()
+    return content(path) if os.path.isfile(path) and os.access(path, os.R_OK) else None
 
 
 def marks():
@@ -84,24 +82,19 @@ def after(case, files):
 # The process
 
 
-def end_of_pipe():
-    """A pipe that its reader closed."""
-    read, write = os.pipe()
-    os.close(read)
-    return write
-
-
 def opened(what, name):
     """What a program gets as this stream, which is a text or a word for what takes or gives none."""
     if isinstance(what, bytes):
         return subprocess.PIPE
-    if what == "full":
-        return os.open("/dev/full", os.O_WRONLY)
-    if what == "folder":
-        return os.open(".", os.O_RDONLY)
+    if what in ("full", "folder"):
+        return os.open("/dev/full", os.O_WRONLY) if what == "full" else os.open(".", os.O_RDONLY)
     if what != "closed":
         raise ValueError(f"{name} is neither a text nor one of the words for none: {what}")
-    return subprocess.DEVNULL if name == "stdin" else end_of_pipe()
+    if name == "stdin":
+        return subprocess.DEVNULL
+    read, write = os.pipe()
+    os.close(read)
+    return write
 
 
 def begin(case):
@@ -134,7 +127,6 @@ def environment_of(case, tools, log, failing):
 
 
 def ended(process, given):
-    """What a process wrote, and its status."""
     try:
         written = process.communicate(given, timeout=SECONDS)
     except subprocess.TimeoutExpired:
@@ -152,8 +144,8 @@ def run_here(case, tools, log, failing):
         if it >= 0:
             os.close(it)
     stdout, stderr, status = ended(process, case["stdin"] if streams["stdin"] == subprocess.PIPE else None)
-    written = {"stdout": case["stdout"] if stdout is None else stdout, "stderr": case["stderr"] if stderr is None else stderr}
-    return {"status": status, **written}
+    taken = {"stdout": stdout, "stderr": stderr}
+    return {"status": status, **{name: case[name] if it is None else it for name, it in taken.items()}}
 
 
 # What came of a run: its outcome, the files before it, and the calls that were written down.
@@ -163,17 +155,16 @@ Ran = collections.namedtuple("Ran", "outcome files calls")
 def run(case, tools, failing=0):
     """Runs a case. The program stands in this folder of tools, and the call of this number fails."""
     with tempfile.TemporaryDirectory() as room:
-        log = f"{room}/log"
-        open(log, "w").close()
+        log = Path(room, "log")
+        log.touch()
         os.mkdir(f"{room}/files")
         os.chmod(room, 0o711)
-        os.chmod(log, 0o666)
+        log.chmod(0o666)
         os.chdir(f"{room}/files")
         make_files(case)
         give_away()
         before = marks()
         files = files_now(before)
-        outcome = {**run_here(case, tools, log, failing), "files": files_now(before)}
+        outcome = {**run_here(case, tools, str(log), failing), "files": files_now(before)}
         os.chdir("/")
-        with open(log) as calls:
-            return Ran(outcome, files, calls.read().split())
+        return Ran(outcome, files, log.read_text().split())

@@ -3,7 +3,6 @@
 import os
 
 from support import built
-from support.command import Reader
 from support.compare import faults, layouts, patches, toml, values
 
 # Of each the peer that is missing here, if one is, the program that it runs, if it runs one, and the call that compares. That
@@ -30,15 +29,10 @@ def compared(name, options):
     return differences
 
 
-def main(about):
-    reader = Reader(about)
-    reader.add_argument("--programs")
-    reader.add_argument("--files", action="append")
-    reader.add_argument("--texts", type=int, default=2000)
-    reader.add_argument("--seed", type=int, default=1)
-    reader.add_argument("names", nargs="*")
-    options = reader.parse_args()
+def main(options):
     options.files = options.files or ["/usr", "/root"]
+    options.texts = 2000 if options.texts is None else options.texts
+    options.seed = 1 if options.seed is None else options.seed
     if not set(options.names) <= set(COMPARISONS):
-        reader.error(f"the comparisons are {', '.join(COMPARISONS)}")
+        options.error(f"the comparisons are {', '.join(COMPARISONS)}")
     return 1 if sum(compared(it, options) for it in options.names or COMPARISONS) else 0

@@ -5,6 +5,7 @@ without an end Python names the beginning, as `jsonfmt` does at the end of its m
 the two takes a text, or where `jsonfmt` names a later place.
 """
 
+import collections
 import json
 import random
 
@@ -46,7 +47,6 @@ def place_of_python(text):
 
 
 def place_of_program(program, text):
-    """The line and the column that the program names, and None where it takes the text."""
     ended = ran(program, text.encode())
     if ended.returncode == 0:
         return None
@@ -59,16 +59,14 @@ def place_of_program(program, text):
 
 def compare(program, options):
     random.seed(options.seed)
-    good, same, earlier, differ = 0, 0, 0, 0
+    kinds = collections.Counter()
     for _ in range(options.texts):
         text = broken(text_of(3))
         found, wanted = place_of_program(program, text), place_of_python(text)
-        if found == wanted:
-            good, same = good + (found is None), same + (found is not None)
-        elif found and wanted and found < wanted:
-            earlier += 1
-        else:
-            differ += 1
+        is_earlier = found and wanted and found < wanted
+        kind = ("same" if found else "JSON") if found == wanted else "earlier" if is_earlier else "elsewhere"
+        kinds[kind] += 1
+        if kind == "elsewhere":
             print(f"{text!r}: {found}, and {wanted} by Python")
-    places = f"{same} faults at the same place, {earlier} at the beginning of a lexeme that is none, {differ} elsewhere"
-    return f"{good} texts are JSON, {places}", differ
+    places = f"{kinds['same']} faults at the same place, {kinds['earlier']} at the beginning of a lexeme that is none"
+    return f"{kinds['JSON']} texts are JSON, {places}, {kinds['elsewhere']} elsewhere", kinds["elsewhere"]

@@ -12,10 +12,8 @@ def files(folders, ending):
 
 
 def ran(program, text, *words, folder=None):
-    """How a run of a program on a text ended."""
     return subprocess.run([program, *words], input=text, cwd=folder, stdout=subprocess.PIPE, stderr=subprocess.PIPE)
 
 
 def said(ended):
-    """What a run wrote to standard error."""
     return ended.stderr.decode(errors="replace").strip()

@@ -4,6 +4,7 @@ which are written here once more. The documents are those of crates/bench/src.
 
 import sys
 import threading
+from concurrent.futures import ThreadPoolExecutor
 
 from support.command import ROOT, read
 
@@ -41,12 +42,8 @@ def lines(line):
     return lambda count: append(*(line() for _ in range(count)))
 
 
-def cell():
-    return group(append(text("a"), text("b")))
-
-
-def comment(s):
-    return ("suffix", text(s))
+def remark():
+    return ("suffix", text("  # why"))
 
 
 # Of each name its small size, its width, and its document.
@@ -54,13 +51,13 @@ WORKLOADS = {
     "texts": (1000, 80, levels("a", lambda d: group(append(text("a"), LINE, d)))),
     "kept": (100, 80, levels("a", lambda d: ("union", append(text("a"), BREAK, d), text("b")))),
     "tails": (100, 80, levels("a", lambda d: append(group(append(LINE_, d)), text("a text of forty columns, behind a group.")))),
-    "weak": (1000, 80, lines(lambda: append(text("a text with a remark"), WEAK, comment("  # why"), BREAK))),
+    "weak": (1000, 80, lines(lambda: append(text("a text with a remark"), WEAK, remark(), BREAK))),
     "sums": (1000, 80, levels("a", lambda d: group(append(d, LINE, text("+ b"))))),
     "spaces": (1000, 80, levels("a", lambda d: group(append(append(text("a"), WEAK), LINE, d)))),
-    "remarks": (1000, 80, levels("a", lambda d: group(append(append(text("a"), comment("  # why")), LINE, d)))),
+    "remarks": (1000, 80, levels("a", lambda d: group(append(append(text("a"), remark()), LINE, d)))),
     "unions": (1000, 80, levels("a", lambda d: group(append(text("a"), LINE, ("union", d, text("b")))))),
     "partial": (1000, 80, levels("a", lambda d: group(append(text("a"), LINE, ("partial", d, text("b")))))),
-    "records": (50, 80, lines(lambda: append(append(*(cell() for _ in range(30))), BREAK))),
+    "records": (50, 80, lines(lambda: append(append(*(group(append(text("a"), text("b"))) for _ in range(30))), BREAK))),
 }
 
 
@@ -92,10 +89,9 @@ class Layout:
         if kind == "append":
             found = self.look(doc[1], flat, column, gap, fresh, pending)
             return found if isinstance(found, bool) else self.look(doc[2], flat, *found)
-        if kind == "group":
-            return self.look(doc[1], flat, column, gap, fresh, pending)
         # of two documents: a broken line has the first of an either, and the second of a union
-        return self.look(doc[1 if flat == (kind != "either") else 2], flat, column, gap, fresh, pending)
+        is_first = kind == "group" or flat == (kind != "either")
+        return self.look(doc[1 if is_first else 2], flat, column, gap, fresh, pending)
 
     def probe(self, doc, flat, rest):
         found = self.look(doc, flat, self.column, self.gap, self.fresh, self.pending != ())
@@ -181,13 +177,10 @@ def line_of(name):
 
 def in_a_deep_stack(call):
     """What a call answers that calls itself as deep as documents are."""
-    found = []
     sys.setrecursionlimit(10**7)
     threading.stack_size(2**30)
-    thread = threading.Thread(target=lambda: found.append(call()))
-    thread.start()
-    thread.join()
-    return found[0]
+    with ThreadPoolExecutor(1) as pool:
+        return pool.submit(call).result()
 
 
 def compare(_, __):

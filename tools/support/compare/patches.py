@@ -25,7 +25,6 @@ LACKING = " ".join(it[0] for it in PATCHING if not shutil.which(it[0]))
 
 
 def fill(folder, names):
-    """Makes files that are to be laid out."""
     for name in names:
         path = os.path.join(os.fsencode(folder), os.fsencode(name))
         os.makedirs(os.path.dirname(path), exist_ok=True)
@@ -71,8 +70,7 @@ def faults_without_utf8(program):
 
 
 def compare(program, _):
-    faults = {name: faults_of(program, name) for name in NAMES}
-    faults["a name that is not UTF-8"] = faults_without_utf8(program)
+    faults = {**{name: faults_of(program, name) for name in NAMES}, "a name that is not UTF-8": faults_without_utf8(program)}
     for name, found in faults.items():
         for it in found:
             print(f"{name!r}: {it}")

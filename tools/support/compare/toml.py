@@ -105,9 +105,8 @@ def value(rng, depth, lines):
     if kind < 0.75:
         made = [gap(rng, True) + value(rng, depth - 1, True) + gap(rng, True) for _ in range(rng.randrange(5))]
         return "[" + ",".join(made) + ("," if made and rng.random() < 0.3 else "") + gap(rng, True) + "]"
-    keys = rng.sample(range(100), rng.randrange(4))
     made = []
-    for it in keys:
+    for it in rng.sample(range(100), rng.randrange(4)):
         key = gap(rng, False) + f"{rng.choice(['k', 'key-', 'x.y'])}{it}" + gap(rng, False)
         made.append(key + "=" + gap(rng, False) + value(rng, depth - 1, False) + gap(rng, False))
     return "{" + ",".join(made or [gap(rng, False)]) + "}"
@@ -115,9 +114,8 @@ def value(rng, depth, lines):
 
 def made_text(rng):
     """A TOML text made at random, whose keys are each defined once."""
-    lines, number = [], 0
-    for _ in range(rng.randrange(1, 12)):
-        number += 1
+    lines = []
+    for number in range(1, 1 + rng.randrange(1, 12)):
         kind, end = rng.random(), rng.choice(["", "", " " + rng.choice(COMMENTS)])
         parts = [gap(rng, False) + "." + gap(rng, False) + rng.choice(KEYS) for _ in range(rng.randrange(3))]
         key = rng.choice(BLANKS) + f"n{number}" + "".join(parts)
@@ -154,10 +152,9 @@ class Comparison:
     def take(self, name, text, found):
         """Takes note of what is wrong with a text, if anything is. Whether nothing is."""
         self.same, self.differ = self.same + (not found), self.differ + bool(found)
-        if found:
-            small = least(self.program, text, found)
-            if small not in self.seen:
-                print(f"{name}: {found}\n    {small!r}", flush=True)
+        small = least(self.program, text, found) if found else None
+        if found and small not in self.seen:
+            print(f"{name}: {found}\n    {small!r}", flush=True)
             self.seen.add(small)
         return not found
 

@@ -29,12 +29,9 @@ def compare(program, options):
             continue
         for width in WIDTHS:
             ended = ran(program, b"", "--width", width, path)
-            if ended.returncode:
-                refused += 1
-                print(f"{path}: refused: {said(ended)}")
-            elif value(ended.stdout.decode()) == before:
-                same += 1
-            else:
-                differ += 1
-                print(f"{path}: another value at width {width}")
+            is_same = not ended.returncode and value(ended.stdout.decode()) == before
+            same, refused = same + is_same, refused + bool(ended.returncode)
+            differ += not is_same and not ended.returncode
+            if not is_same:
+                print(f"{path}: {f'refused: {said(ended)}' if ended.returncode else f'another value at width {width}'}")
     return f"{same} layouts with the same value, {differ} with another, {refused} refused; {unread} files are no JSON", differ

@@ -2,10 +2,9 @@
 
 import os
 import re
-import shutil
 
 from support.command import read, write
-from support.crates import PARTS
+from support.crates import copy_parts
 from support.sources import functions_in, likeness
 
 # The head of a loop.
@@ -19,15 +18,15 @@ class Edit:
         self.path, self.name, self.pairs, self.why = path, os.path.basename(path), [], ""
         self.folder = os.path.basename(os.path.dirname(path))
         file = old = None
-        for line in read(path).split("\n"):
-            if line.startswith("file: "):
-                file = line[len("file: ") :].strip()
-            elif line.startswith("old: "):
-                old = line[len("old: ") :]
-            elif line.startswith("new:"):
-                self.pairs.append((file, old, re.sub(r"\A ", "", line[len("new:") :])))
-            elif line.startswith("why: "):
-                self.why = line[len("why: ") :].strip()
+        for kind, text in re.findall(r"^(file|old|new|why):(?: (.*)|$)", read(path), re.M):
+            if kind == "file":
+                file = text.strip()
+            elif kind == "old":
+                old = text
+            elif kind == "new":
+                self.pairs.append((file, old, text))
+            else:
+                self.why = text.strip()
 
     def brings_a_loop(self):
         """Whether it has more loops than what it replaces."""
@@ -59,16 +58,11 @@ class Copy:
 
     def __init__(self, crate, folder):
         self.crate, self.folder, self.texts, self.edits = crate, folder, {}, []
-        for part in PARTS:
-            if os.path.isdir(f"{crate.folder}/{part}"):
-                shutil.copytree(f"{crate.folder}/{part}", f"{folder}/{part}")
+        copy_parts(crate, folder)
 
     def text(self, file, texts):
-        if file not in texts and file not in self.texts:
-            if not os.path.isfile(f"{self.folder}/{file}"):
-                return ""
-            self.texts[file] = read(f"{self.folder}/{file}")
-        return texts.get(file, self.texts.get(file))
+        path = f"{self.folder}/{file}"
+        return texts.get(file) or self.texts.get(file) or (read(path) if os.path.isfile(path) else "")
 
     def place_in(self, file, text, at):
         """The function of the file that the text's place is in, or None."""

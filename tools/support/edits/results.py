@@ -65,10 +65,8 @@ class Said:
         clauses = [goal for it, goal in refused if is_of_a_clause(edit, goal, lambda loop: knows_loop(self.crate, it, loop))]
         if clauses:
             return CLAUSE, min(clauses, key=lambda goal: not AT_RETURN.search(goal))
-        if refused:
-            return OWN_CODE, refused[0][1]
-        if gone:
-            return NAME, gone[0]
+        if refused or gone:
+            return (OWN_CODE, refused[0][1]) if refused else (NAME, gone[0])
         if all(IS_PROVED.match(self.verdicts[it]) for it in every):
             return PROVED, "the function is proved with it"
         return UNJUDGED, "its function is open only through one that it calls"

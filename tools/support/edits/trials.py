@@ -8,7 +8,7 @@ import tempfile
 import threading
 from concurrent.futures import ThreadPoolExecutor
 
-from support.command import ROOT, Failed, Reader, at_once, measured, output, run
+from support.command import ROOT, Failed, at_once, measured, output, run
 from support.crates import below, crates_of, is_newer, with_below
 from support.edits.places import Copy, Edit, named_among, paths_of
 from support.edits.results import CLAUSE, COMPILED, NAME, OWN_CODE, RESULTS, TOLD, UNAPPLIED, FORBIDDEN, UNCOMPILED, UNJUDGED
@@ -33,7 +33,6 @@ NO_PLACE = (UNAPPLIED, "it has no pair, or an `old:` text that does not stand in
 
 
 def edits_of(crate, folders):
-    """The edits of a crate that stand in these folders."""
     return [Edit(path) for folder in folders for path in sorted(glob.glob(f"{crate.folder}/{folder}/*.edit"))]
 
 
@@ -50,8 +49,7 @@ class Trial:
     def run(self):
         """Tries all edits of which nothing is known, and gives the trial itself."""
         with tempfile.TemporaryDirectory(prefix=f"edits-{self.crate.name}-") as folder:
-            self.kept = f"{folder}/kept"
-            self.begin()
+            self.begin(f"{folder}/kept")
             for edit in self.edits:
                 if edit.folder == FORBIDS:
                     self.results[edit] = self.compiled(edit, f"{folder}/{COPY}{edit.name}")
@@ -68,25 +66,22 @@ class Trial:
         copy.write()
         printed, status, seconds = measured([*self.words, "--only", ""], copy.folder)
         self.seconds += seconds
-        if NO_OWNER.search(printed):
-            return FORBIDDEN, first_error(printed)
-        return (UNCOMPILED if NO_CODE.search(printed) else UNJUDGED if status else COMPILED), first_error(printed)
+        is_code, failed = NO_CODE.search(printed), UNJUDGED if status else COMPILED
+        return FORBIDDEN if NO_OWNER.search(printed) else UNCOMPILED if is_code else failed, first_error(printed)
 
-    def begin(self):
+    def begin(self, kept):
         """Begins with what `rt check` kept of the crate. A check replaces such files, and changes none."""
-        begun = f"{self.crate.folder}/out/incremental"
+        begun, self.kept = f"{self.crate.folder}/out/incremental", kept
         if os.path.isdir(begun):
-            shutil.copytree(begun, self.kept, copy_function=os.link)
-        else:
-            os.mkdir(self.kept)
+            shutil.copytree(begun, kept, copy_function=os.link)
+        os.makedirs(kept, exist_ok=True)
 
     def round(self, edits, folder):
         """Tries as many edits as one copy can take, and gives those that are to be tried again."""
         copy = Copy(self.crate, folder)
         left = [it for it in edits if not copy.take(it)]
         if not copy.edits:
-            for edit in left:
-                self.results[edit] = NO_PLACE
+            self.results.update(dict.fromkeys(left, NO_PLACE))
             return []
         copy.write()
         again = self.tried(copy)
@@ -131,31 +126,22 @@ class Trial:
         """Tries the edits of a round that did not end well in two rounds, down to the one whose fault it is."""
         if len(edits) > 1:
             half = len(edits) // 2
-            again = []
-            for part in (edits[:half], edits[half:]):
-                with tempfile.TemporaryDirectory(prefix=f"edits-{self.crate.name}-") as folder:
-                    again += self.round(part, f"{folder}/{COPY}part")
-            return again
-        is_code = NO_CODE.search(printed)
-        self.results[edits[0]] = UNCOMPILED if is_code else UNJUDGED, f"{'' if is_code else f'status {status}: '}{first_error(printed)}"
+            with tempfile.TemporaryDirectory(prefix=f"edits-{self.crate.name}-") as folder:
+                return [it for part in (edits[:half], edits[half:]) for it in self.round(part, f"{folder}/{COPY}{part[0].name}")]
+        error = first_error(printed)
+        self.results[edits[0]] = (UNCOMPILED, error) if NO_CODE.search(printed) else (UNJUDGED, f"status {status}: {error}")
         return []
 
-    def count(self, result):
-        return sum(it == result for it, _ in self.results.values())
-
     def bad(self):
-        """The edits that came to what they may not."""
         return [it for it in self.edits if not may_come_to(it, self.results[it][0])]
 
 
 def first_error(printed):
-    """The first line that says what is wrong."""
     lines = [it for it in printed.split("\n") if it.strip()]
     return next((it for it in lines if "error" in it), lines[-1] if lines else "")[:200]
 
 
 def may_come_to(edit, result):
-    """Whether an edit may come to this."""
     if edit.folder == FORBIDS:
         return result == FORBIDDEN
     is_excused = edit.folder == OTHERS and edit.why and result in (OWN_CODE, NAME)
@@ -186,8 +172,8 @@ def say(line):
 
 def report(trial, show):
     """Prints the line of a crate, and those of its edits that no clause refuses."""
-    seconds = f"{trial.seconds:.0f} processor seconds"
-    lines = [f"{trial.crate.name}: {len(trial.edits)} edits, {len(trial.bad())} bad; {trial.rounds} rounds, {seconds}"]
+    counts = f"{len(trial.edits)} edits, {len(trial.bad())} bad; {trial.rounds} rounds, {trial.seconds:.0f} processor seconds"
+    lines = [f"{trial.crate.name}: {counts}"]
     for edit in trial.edits:
         result, why = trial.results[edit]
         if show or result not in (CLAUSE, FORBIDDEN):
@@ -196,26 +182,19 @@ def report(trial, show):
     say("\n".join(lines))
 
 
-def asked(about):
-    """What the arguments ask for: the options, the crates to try with their edits, and all crates."""
-    reader = Reader(about)
-    reader.add_argument("names", nargs="*")
-    which = reader.add_mutually_exclusive_group()
-    which.add_argument("--all", action="store_true")
-    which.add_argument("--gate", action="store_true")
-    reader.add_argument("--jobs", type=int, default=at_once(MEMORY))
-    reader.add_argument("--show", action="store_true")
-    options, crates = reader.parse_args(), crates_of()
+def asked(options, crates):
+    """The crates to try, each with its edits."""
     folders = (GATE, FORBIDS) if options.gate else (GATE, OTHERS, FORBIDS) if options.all else (OTHERS,)
     lacking = [it for it in options.names if it not in crates or not edits_of(crates[it], folders)]
     if lacking:
         raise Failed(f"{' '.join(lacking)}: crates.txt names no such crate, or it has no edits")
-    names = options.names or [name for name, it in crates.items() if edits_of(it, folders)]
-    return options, [(crates[name], edits_of(crates[name], folders)) for name in names], crates
+    found = [(it, edits_of(it, folders)) for name, it in crates.items() if not options.names or name in options.names]
+    return [(crate, edits) for crate, edits in found if edits]
 
 
-def main(about):
-    options, wanted, crates = asked(about)
+def main(options):
+    crates = crates_of()
+    wanted = asked(options, crates)
     need_rt()
     results = told_by_rt(wanted) if options.gate else {}
     make_libraries([crate.name for crate, edits in wanted if any(it not in results for it in edits)], crates)
@@ -225,21 +204,17 @@ def main(about):
         report(trial, options.show)
         return trial
 
-    with ThreadPoolExecutor(max(1, options.jobs)) as pool:
+    with ThreadPoolExecutor(max(1, options.jobs or at_once(MEMORY))) as pool:
         trials = list(pool.map(tried, *zip(*wanted)))
-    return summed_up(trials, excused(crates))
-
-
-def excused(crates):
-    """The edits of all crates that say why no clause refuses them."""
-    return [edit for it in crates.values() for edit in edits_of(it, (OTHERS,)) if edit.why]
+    # The edits of all crates that say why no clause refuses them.
+    return summed_up(trials, [edit for it in crates.values() for edit in edits_of(it, (OTHERS,)) if edit.why])
 
 
 def summed_up(trials, excused):
-    """Prints the counts, and gives the status."""
     bad = sum(len(it.bad()) for it in trials)
     minutes = sum(it.seconds for it in trials) / 60
-    counts = ", ".join(f"{sum(it.count(result) for it in trials)} {result}" for result in RESULTS)
+    results = [result for it in trials for result, _ in it.results.values()]
+    counts = ", ".join(f"{results.count(it)} {it}" for it in RESULTS)
     print(f"edits: {sum(len(it.edits) for it in trials)} of {len(trials)} crates, {bad} bad; {minutes:.0f} processor minutes")
     print(f"edits: {counts}")
     if len(excused) > MOST_EXCUSED:

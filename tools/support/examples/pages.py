@@ -16,12 +16,13 @@ example names `width`, what is in `out` after it was run with that. `·` is a sp
 """
 
 import collections
-import glob
 import json
+import os
 import re
 import unicodedata
 
 from support.command import read
+from support.crates import crates_of
 
 HEAD = re.compile(r"(?:\d+ columns?|[a-z]+)(?: +\| (?:\d+ columns?|[a-z]+))+")
 ITEM = re.compile(r"(?:const|enum|fn|impl|struct)\b| ")
@@ -53,11 +54,10 @@ class Texts:
     """The files of crates/, for what a page has of them."""
 
     def __init__(self):
-        forms = ("src/**/*.rt", "specs/**/*.antt", "proofs/**/*.antt")
-        paths = [path for form in forms for path in glob.glob(f"crates/*/{form}", recursive=True)]
+        paths = [path for crate in crates_of(".").values() for path in crate.sources() if os.path.isfile(path)]
         texts = {path: read(path) for path in paths}
         self.squeezed = [squeezed(it) for it in texts.values()]
-        self.tests = [text for path, text in texts.items() if path.startswith("crates/test_")]
+        self.tests = [text for path, text in texts.items() if "/crates/test_" in path]
 
     def have(self, part):
         """Whether the lines stand in a file, apart from spaces and line ends."""
@@ -75,27 +75,24 @@ def squeezed(text):
 
 
 def literal(text):
-    """A text as it is written in Rust."""
     return json.dumps(text, ensure_ascii=False)
 
 
 def blocks_of(path, faults):
     """The blocks of a page, each as the list of its parts."""
     block, part = [], []
-    with open(path, encoding="utf-8") as lines:
-        for number, line in enumerate([*lines, "end"], 1):
-            if line.startswith("    "):
-                if not part:
-                    block.append(Part(number, part))
-                part.append(line[4:].rstrip("\n"))
-            elif not line.strip():
-                part = []
-            else:
-                if block:
-                    yield block
-                block, part = [], []
-                if FENCE.match(line):
-                    faults.append(f"{path}:{number}: blocks of this page are indented, and have no fence")
+    for number, line in enumerate([*read(path).splitlines(), "end"], 1):
+        if line.startswith("    "):
+            block += [] if part else [Part(number, part)]
+            part.append(line[4:])
+        elif not line.strip():
+            part = []
+        else:
+            if block:
+                yield block
+            block, part = [], []
+            if FENCE.match(line):
+                faults.append(f"{path}:{number}: blocks of this page are indented, and have no fence")
 
 
 def cells_of(line, bars):
@@ -129,7 +126,6 @@ def has_items(part):
 
 
 def parted(block):
-    """The items of a block, its statements, and its table."""
     tables = [it for it in block if HEAD.fullmatch(it.lines[0])]
     code = [it for it in block if it not in tables]
     count = next((at for at, it in enumerate(code) if not has_items(it)), len(code))
@@ -146,7 +142,6 @@ def is_no_example(block, columns, texts):
 
 
 def examples_of(path, faults):
-    """The items and the examples of a page, in order."""
     texts = Texts()
     for block in blocks_of(path, faults):
         items, statements, tables = parted(block)

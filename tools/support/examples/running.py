@@ -7,7 +7,7 @@ import shutil
 import tempfile
 
 from support import command
-from support.command import ROOT, SUPPORT, Reader, read, write
+from support.command import ROOT, SUPPORT, read, write
 from support.examples import pages
 from support.examples.pages import Example, Items, literal
 
@@ -128,27 +128,23 @@ def examples_of(path, faults):
     if path[len("crates/") :] in PRIVATE:
         return
     opened, code = 0, []
-    with open(path, encoding="utf-8") as lines:
-        for number, line in enumerate([*lines, ""], 1):
-            comment = re.match(r"\s*//[/!] ?(.*)", line)
-            if comment and comment[1] == "```":
-                if opened and not code[0].startswith("impl"):
-                    yield Example(path, opened + 1, code)
-                opened, code = 0 if opened else number, []
-            elif opened and comment:
-                code.append(comment[1])
-            elif opened or LOOKS.search(line):
-                faults.append(f"{path}:{opened or number}: this looks like an example, and is none")
-                opened = 0
+    for number, line in enumerate([*read(path).split("\n"), ""], 1):
+        comment = re.match(r"\s*//[/!] ?(.*)", line)
+        if comment and comment[1] == "```":
+            if opened and not code[0].startswith("impl"):
+                yield Example(path, opened + 1, code)
+            opened, code = 0 if opened else number, []
+        elif opened and comment:
+            code.append(comment[1])
+        elif opened or LOOKS.search(line):
+            faults.append(f"{path}:{opened or number}: this looks like an example, and is none")
+            opened = 0
 
 
 def operands_of(outcome):
     """The code of the variables that an outcome gives, and what is left of it."""
-    for form, code in OPERANDS.items():
-        given = re.match(form, outcome)
-        if given:
-            return [code.format(*given.groups())], outcome[given.end() :]
-    return [], outcome
+    given = [(re.match(form, outcome), code) for form, code in OPERANDS.items()]
+    return next((([code.format(*it.groups())], outcome[it.end() :]) for it, code in given if it), ([], outcome))
 
 
 def claims_of(outcome):
@@ -165,7 +161,6 @@ def claims_of(outcome):
 
 
 def variables_of(path, code):
-    """The code of the variables that an example may name."""
     place = ["let alloc = rt.alloc();", "let options = RenderOptions::default();", PLACE_OF.get(path[len("crates/") :], PLACE)]
     if path in PAGES:
         return place
@@ -181,7 +176,7 @@ def with_outcome(example, faults):
     parted = re.fullmatch(rf'((?:{LITERAL}|[^"])*?)(?: // (.*))?', line)
     last, outcome = parted.groups(default="") if parted else (line, line)
     operands, outcome = operands_of(outcome)
-    claims = claims_of(outcome)
+    claims = claims_of(outcome) or None
     if not claims:
         faults.append(f"{example.place}: this outcome is of no form: {outcome}")
     return [*operands, *before, last if last.endswith(";") else f"let it = {last};"], claims
@@ -195,21 +190,19 @@ def at_each_width(example):
 
 
 def claim_of(column):
-    """The claim of a column, of `document`."""
-    width = re.match(r"\d+", column.head)
-    options = f"RenderOptions::new({width[0]})" if width else column.head
+    options = re.sub(r"^(\d+).*", r"RenderOptions::new(\1)", column.head)
     return f"outcomes::is_laid_by(&rt, &document, {options}, {literal(column.layout)});"
 
 
 def test_of(example, faults):
     """The lines of an example's test. There is none where its outcome is of no form."""
     code, claims = example.code, [claim_of(it) for it in example.columns]
-    if not claims:
+    if not example.columns:
         code, claims = with_outcome(example, faults)
-        if not claims:
-            return []
     elif re.search(r"\bwidth\b", "\n".join(code)):
         code, claims = at_each_width(example), []
+    if claims is None:
+        return []
     code = "\n".join(code)
     if any("document" in it for it in claims):
         name = ["it", *LETS.findall(code)][-1]
@@ -219,18 +212,10 @@ def test_of(example, faults):
 
 
 def module_of(path):
-    """The module for the examples of a file."""
     if path in PAGES:
         return path[len("docs/") : -len(".md")].lower()
     crate, _, file = path[len("crates/") : -len(".rt")].partition("/src/")
     return f"{crate}__{re.sub(r'[^a-z0-9]', '_', file)}"
-
-
-def copy_crates(folder):
-    """Copies the repository's crates, without what was made of them, and lists one more."""
-    shutil.copytree("crates", f"{folder}/crates", ignore=shutil.ignore_patterns("out"))
-    shutil.copy("HANDLES", folder)
-    write(f"{folder}/crates.txt", f"{read('crates.txt')}\n{CRATE}: {DEPENDENCIES}\n")
 
 
 def write_crate(folder, examples, faults):
@@ -252,7 +237,6 @@ def write_crate(folder, examples, faults):
 
 
 def run(folder, places, faults):
-    """Runs the tests. The answer is how many ran."""
     tried, status = command.run(["rt", "try", "--test"], folder)
     faults += [f"{places[test]}: this comes to something else{why}" for test, why in FAILED.findall(tried)]
     faults += [f"{places.get(line, line)}: {why}" for line, why in REFUSED.findall(tried)]
@@ -262,14 +246,15 @@ def run(folder, places, faults):
     return int(result[1]) + int(result[2]) if result else 0
 
 
-def main(about):
-    Reader(about).parse_args()
+def main(_):
     os.chdir(ROOT)
     faults = []
     of_comments = [it for path in sorted(glob.glob("crates/*/src/**/*.rt", recursive=True)) for it in examples_of(path, faults)]
     of_guide = [it for path in PAGES for it in pages.examples_of(path, faults)]
     with tempfile.TemporaryDirectory() as folder:
-        copy_crates(folder)
+        shutil.copytree("crates", f"{folder}/crates", ignore=shutil.ignore_patterns("out"))
+        shutil.copy("HANDLES", folder)
+        write(f"{folder}/crates.txt", f"{read('crates.txt')}\n{CRATE}: {DEPENDENCIES}\n")
         places = write_crate(f"{folder}/crates/{CRATE}", [*of_comments, *of_guide], faults)
         ran = run(f"{folder}/crates/{CRATE}", places, faults)
     for it in faults:
@@ -277,4 +262,4 @@ def main(about):
     guide = sum(not isinstance(it, Items) for it in of_guide)
     wanted = len(of_comments) + guide
     print(f"examples: {ran} of {wanted} ran, {guide} of them of the guide, and {len(faults)} are wrong")
-    return 1 if faults or ran != wanted else 0
+    return int(bool(faults) or ran != wanted)

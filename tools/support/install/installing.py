@@ -9,7 +9,7 @@ import time
 from concurrent.futures import ThreadPoolExecutor, as_completed
 
 from support.built import STATIC
-from support.command import ROOT, Failed, Reader, at_once, need, read, write
+from support.command import ROOT, Failed, at_once, need, read, write
 from support.crates import crates_of
 from support.install import overlay, proved, unproved
 from support.install.prefix import put_library, put_program, put_wheel
@@ -28,36 +28,18 @@ MEMORY = 1_200_000_000
 
 def say(what, processor=None, clock=None):
     """A line of progress: what is done, and how long it took."""
-    times = [] if processor is None else [f"{processor / 60:.1f} minutes of processor"]
-    times += [] if clock is None else [f"{clock / 60:.1f} by the clock"]
-    print(f"install: {what}{': ' if times else ''}{', '.join(times)}", flush=True)
+    times = "" if processor is None else f": {processor / 60:.1f} minutes of processor"
+    print(f"install: {what}{times}{'' if clock is None else f', {clock / 60:.1f} by the clock'}", flush=True)
 
 
 # What is asked for
-
-
-def wanted(about):
-    reader = Reader(about)
-    reader.add_argument("what", nargs="*")
-    reader.add_argument("--unproved", action="store_true")
-    reader.add_argument("--prefix", default="~/.local")
-    reader.add_argument("--jobs", type=int)
-    reader.add_argument("--toolchain", nargs="?", const="")
-    reader.add_argument("--libraries")
-    options = reader.parse_args()
-    if options.toolchain is not None and (options.what or options.unproved):
-        reader.error("--toolchain stands alone: the library of a toolchain is proved")
-    options.prefix = os.path.abspath(os.path.expanduser(options.prefix))
-    options.what = list(dict.fromkeys(options.what)) or list(EVERYTHING)
-    return options
 
 
 def repository_of(folder):
     """The top of the repository that a crate's folder is of."""
     top = os.path.dirname(os.path.dirname(folder))
     if not os.path.isfile(f"{top}/crates.txt"):
-        parts = ", ".join(EVERYTHING)
-        raise Failed(f"{folder} is none of {parts}, and no folder crates/NAME of a repository with a crates.txt")
+        raise Failed(f"{folder} is none of {', '.join(EVERYTHING)}, and no folder crates/NAME of a repository with a crates.txt")
     return top
 
 
@@ -115,22 +97,19 @@ def with_words(plan, room):
 
 
 def build_unproved(plan, options, room):
-    """Builds each part without its proof."""
     jobs, crates = max(1, min(options.jobs or at_once(MEMORY), len(plan.parts))), with_words(plan, room)
     say(f"building {' '.join(plan.parts)} without proofs, {jobs} at once, in one to two minutes of processor each")
     builders = {it: unproved.Builder(kit(), crates, room) for it in plan.parts}
 
     def build(name):
-        builder, began = builders[name], time.monotonic()
-        make = builder.static_library if crates[name].is_static else builder.program
-        make(name, f"{room}/{name}.made")
-        return name, builder.seconds, time.monotonic() - began
+        began = time.monotonic()
+        builders[name].build(name, f"{room}/{name}.made")
+        say(f"{name} built without its proof", builders[name].seconds, time.monotonic() - began)
 
     with ThreadPoolExecutor(jobs) as pool:
         try:
             for done in as_completed([pool.submit(build, it) for it in plan.parts]):
-                name, processor, clock = done.result()
-                say(f"{name} built without its proof", processor, clock)
+                done.result()
         except BaseException:
             for builder in builders.values():
                 builder.stop()
@@ -141,8 +120,7 @@ def prover_of(crates, handles, names, room):
     """Proves these crates and those below them, and says how far it is."""
     prover = proved.Prover(crates, handles, room)
     many = len(prover.wanted(names))
-    minutes = f"{MINUTES * many:.0f} minutes of processor"
-    say(f"proving {many} crates: from nothing in some {minutes}, and more on a busy machine")
+    say(f"proving {many} crates: from nothing in some {MINUTES * many} minutes of processor, and more on a busy machine")
     prover.prove(names, say)
     return prover
 
@@ -151,32 +129,25 @@ def build_proved(plan, room):
     """Proves all crates that the parts stand on, and builds the parts."""
     prover = prover_of(plan.crates, plan.handles, plan.parts, room)
     for name in plan.parts:
-        make = prover.static_library if plan.crates[name].is_static else prover.program
-        make(name, f"{room}/{name}.made")
+        prover.build(name, f"{room}/{name}.made")
 
 
 # The toolchain
 
 
-def are_taken(archive, crates, to):
-    """Unpacks the libraries of a release. Whether they serve here; if not, it says why."""
-    why = overlay.difference(overlay.unpack(archive, to), kit(), crates)
-    if why:
-        say(f"the libraries of {archive} are not taken, and proved anew: {why}")
-        shutil.rmtree(to)
-    return not why
-
-
 def install_toolchain(options):
-    """Makes the toolchain that has the library, of an archive or of a proof."""
     plain, crates = kit(), crates_of()
     to = os.path.abspath(os.path.expanduser(options.toolchain or f"{options.prefix}/{TOOLCHAIN}"))
-    if not overlay.is_plain(plain):
+    if any(os.path.exists(f"{plain}/rlibs/{name}.rlib") for name in overlay.NAMED):
         raise Failed(f"the rt on the path is of a toolchain that has the library, {plain}: put the plain one before it")
     check_room(os.path.dirname(to))
     with tempfile.TemporaryDirectory(prefix="yezhgulo-") as room:
         libraries = f"{room}/libraries"
-        if not (options.libraries and are_taken(options.libraries, crates, libraries)):
+        why = overlay.difference(overlay.unpack(options.libraries, libraries), plain, crates) if options.libraries else "none"
+        if why and options.libraries:
+            say(f"the libraries of {options.libraries} are not taken, and proved anew: {why}")
+            shutil.rmtree(libraries)
+        if why:
             prover = prover_of(crates, f"{ROOT}/HANDLES", overlay.NAMED, room)
             overlay.collect(crates, prover.library, overlay.record_of(plain, crates), libraries)
         overlay.make(plain, libraries, to)
@@ -201,24 +172,23 @@ def install(plan, options):
     need(c_library.NEEDED if STATIC in plan.parts else {})
     check_room(options.prefix)
     with tempfile.TemporaryDirectory(prefix="yezhgulo-") as room:
-        if options.unproved:
-            build_unproved(plan, options, room)
-        else:
-            build_proved(plan, room)
+        build_unproved(plan, options, room) if options.unproved else build_proved(plan, room)
         placed = put_all(plan, options.prefix, room, not options.unproved)
     say(f"in {options.prefix}: {' '.join(os.path.relpath(it, options.prefix) for it in placed)}")
     if options.unproved:
         say("these were built WITHOUT their proofs: tools/install without --unproved proves them")
 
 
-def main(about):
-    options = wanted(about)
+def main(options):
+    if options.toolchain is not None and (options.whats or options.unproved):
+        options.error("--toolchain stands alone: the library of a toolchain is proved")
+    options.prefix = os.path.abspath(os.path.expanduser(options.prefix or "~/.local"))
     # So that what was made between is removed where the process is told to stop.
     signal.signal(signal.SIGTERM, lambda number, _: sys.exit(128 + number))
     need_rt()
     try:
         if options.toolchain is None:
-            install(Plan(options.what), options)
+            install(Plan(list(dict.fromkeys(options.whats)) or EVERYTHING), options)
         else:
             install_toolchain(options)
     except KeyboardInterrupt:

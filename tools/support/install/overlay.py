@@ -11,8 +11,8 @@ import os
 import shutil
 import tarfile
 
-from support.command import content, link_all, read
-from support.crates import PARTS, with_below
+from support.command import content, link_all, read, write
+from support.crates import PARTS, copy_parts, files_below, with_below
 from support.version import commit, version
 
 # The crates that are for other repositories; those below them come along.
@@ -25,21 +25,12 @@ def build_of(kit):
     return "\n".join(read(f"{kit}/{name}").strip() for name in ("KIT-ID", "WHAT"))
 
 
-def is_plain(kit):
-    """Whether a toolchain lacks the library."""
-    return not any(os.path.exists(f"{kit}/rlibs/{name}.rlib") for name in NAMED)
-
-
 def sum_of(crates):
     """A sum of all that a proof reads of these crates."""
     sums = hashlib.sha256()
     for crate in crates:
-        for part in PARTS:
-            for at, folders, files in os.walk(f"{crate.folder}/{part}"):
-                folders.sort()
-                for name in sorted(files):
-                    path = f"{at}/{name}"
-                    sums.update(repr((os.path.relpath(path, crate.folder), content(path))).encode())
+        for path in [it for part in PARTS for it in files_below(f"{crate.folder}/{part}")]:
+            sums.update(repr((os.path.relpath(path, crate.folder), content(path))).encode())
     return sums.hexdigest()
 
 
@@ -51,9 +42,9 @@ def record_of(kit, crates):
 
 def difference(record, kit, crates):
     """Why libraries with this record do not serve here, or nothing where they do."""
-    if record.get("toolchain") != build_of(kit):
-        proved_by = record.get("toolchain", "another toolchain").splitlines()[0]
-        return f"they were proved by {proved_by}, and this is another build: {build_of(kit).splitlines()[0]}"
+    proved_by = record.get("toolchain", "another toolchain")
+    if proved_by != build_of(kit):
+        return f"they were proved by {proved_by.splitlines()[0]}, and this is another build: {build_of(kit).splitlines()[0]}"
     if record.get("sources") != sum_of(with_below(NAMED, crates)):
         return "they were proved of other sources than those of this checkout"
     return ""
@@ -63,11 +54,8 @@ def collect(crates, library, record, to):
     """Puts the libraries into a folder, each as its `library` names its place, with their sources and the record."""
     for crate in with_below(NAMED, crates):
         shutil.copytree(library(crate), f"{to}/rlibs/{crate.name}.rlib")
-        for part in PARTS:
-            if os.path.isdir(f"{crate.folder}/{part}"):
-                shutil.copytree(f"{crate.folder}/{part}", f"{to}/rattle/{crate.name}/{part}")
-    with open(f"{to}/{RECORD}", "w", encoding="utf-8") as file:
-        json.dump(record, file, indent=1)
+        copy_parts(crate, f"{to}/rattle/{crate.name}")
+    write(f"{to}/{RECORD}", json.dumps(record, indent=1))
 
 
 def unpack(archive, to):

@@ -2,7 +2,6 @@
 
 import glob
 import gzip
-import hashlib
 import json
 import os
 import re
@@ -12,10 +11,10 @@ import tempfile
 
 from support import built
 from support.built import STATIC
-from support.command import ROOT, Failed, Reader, content, read, write
-from support.crates import below, crates_of, with_below
+from support.command import ROOT, Failed, output, put, read, write
+from support.crates import below, crates_of, files_below, with_below
 from support.install import overlay
-from support.install.prefix import put, put_library, put_program, put_wheel
+from support.install.prefix import put_library, put_program, put_wheel
 from support.toolchain import kit
 from support.version import FORMATTERS, commit, others, version
 from support.web import module
@@ -34,8 +33,7 @@ def check_left(crates):
     """Fails where the checkout is no commit, or where something that is packed is not of its sources."""
     if not commit() or commit().endswith("+"):
         raise Failed("files differ from the commit that the checkout stands on: commit them, or put them away")
-    files = {it: f"{built.folder_of(it)}/out/{it}" for it in FORMATTERS}
-    files[STATIC] = built.archive_of(STATIC)
+    files = {**{it: f"{built.folder_of(it)}/out/{it}" for it in FORMATTERS}, STATIC: built.made_of(STATIC)}
     older = [name for name, path in files.items() if not built.is_left(path, name)]
     older += [] if built.are_left([*with_below(overlay.NAMED, crates), *below([STATIC], crates)]) else ["the libraries"]
     if older:
@@ -44,15 +42,14 @@ def check_left(crates):
 
 def manifest(crates):
     """What was proved and tested, of which commit and by which toolchain."""
-    files = {name: glob.glob(f"{it.folder}/src/**/*.rt", recursive=True) for name, it in crates.items()}
-    tests = {name: sum(len(TEST.findall(read(path))) for path in paths) for name, paths in files.items()}
+    tests = [sum(len(TEST.findall(read(path))) for path in files_below(f"{it.folder}/src")) for it in crates.values()]
     return {
         "version": version(),
         "commit": commit(),
         "toolchain": overlay.build_of(kit()).splitlines(),
         "crates proved": len(crates),
-        "crates whose tests are proved": sum(map(bool, tests.values())),
-        "tests run": sum(tests.values()),
+        "crates whose tests are proved": sum(map(bool, tests)),
+        "tests run": sum(tests),
         "edits refused": sum(len(glob.glob(f"{it.folder}/{EDITS}")) for it in crates.values()),
     }
 
@@ -72,28 +69,22 @@ def pack(folder, name, top=""):
     path = f"{DIST}/{name}"
     with open(path, "wb") as raw, gzip.GzipFile("", "wb", 6, raw, 0) as zipped:
         with tarfile.open(fileobj=zipped, mode="w", format=tarfile.PAX_FORMAT) as archive:
-            for at, folders, files in os.walk(folder):
-                folders.sort()
-                for file in sorted(files):
-                    inside = os.path.relpath(f"{at}/{file}", folder)
-                    archive.add(f"{at}/{file}", os.path.join(top, inside), filter=plain)
+            for path in files_below(folder):
+                archive.add(path, os.path.join(top, os.path.relpath(path, folder)), filter=plain)
     return path
 
 
 def pack_prefix(name, about):
-    """Packs the programs and the library for C as they stand below a prefix."""
     with tempfile.TemporaryDirectory() as folder:
         for it in FORMATTERS:
             put_program(it, built.program(it), folder)
         put_library(built.static_library(), folder, True)
-        for it in ("LICENSE", "NOTICE", "CHANGELOG.md"):
-            put(f"{ROOT}/{it}", f"{folder}/share/doc/yezhgulo/{it}")
-        put(about, f"{folder}/share/doc/yezhgulo/MANIFEST.json")
+        for path in (f"{ROOT}/LICENSE", f"{ROOT}/NOTICE", f"{ROOT}/CHANGELOG.md", about):
+            put(path, f"{folder}/share/doc/yezhgulo/{os.path.basename(path)}")
         return pack(folder, f"{name}.tar.gz", name)
 
 
 def pack_libraries(crates, name):
-    """Packs the proved library for other repositories."""
     with tempfile.TemporaryDirectory() as folder:
         overlay.collect(crates, lambda it: it.rlib, overlay.record_of(kit(), crates), folder)
         return pack(folder, f"{name}.tar.gz")
@@ -107,14 +98,7 @@ def pack_package(name):
         return pack(package_of(path, f"{room}/package"), f"{name}.tgz", "package")
 
 
-def write_sums(paths):
-    """Writes the sums of files, as `sha256sum` does."""
-    sums = [f"{hashlib.sha256(content(it)).hexdigest()}  {os.path.basename(it)}\n" for it in paths]
-    write(f"{DIST}/SHA256SUMS", "".join(sums))
-
-
-def main(about):
-    Reader(about).parse_args()
+def main(_):
     crates, number = crates_of(), version()
     if others():
         raise Failed("the parts have different versions: tools/versions says which")
@@ -122,11 +106,9 @@ def main(about):
     shutil.rmtree(DIST, ignore_errors=True)
     os.makedirs(DIST)
     told = write(f"{DIST}/MANIFEST.json", json.dumps(manifest(crates), indent=1) + "\n")
-    kit_name = overlay.build_of(kit()).split()[0]
-    paths = [told, pack_prefix(f"yezhgulo-{number}-x86_64-linux", told)]
-    paths += put_wheel(built.static_library(), DIST, True)
-    paths.append(pack_package(f"yezhgulo-{number}"))
-    paths.append(pack_libraries(crates, f"yezhgulo-{number}-libraries-{kit_name}"))
-    write_sums(paths)
+    paths = [told, pack_prefix(f"yezhgulo-{number}-x86_64-linux", told), *put_wheel(built.static_library(), DIST, True)]
+    paths += [pack_package(f"yezhgulo-{number}")]
+    paths += [pack_libraries(crates, f"yezhgulo-{number}-libraries-{overlay.build_of(kit()).split()[0]}")]
+    write(f"{DIST}/SHA256SUMS", output(["sha256sum", *map(os.path.basename, paths)], DIST))
     for path in paths:
         print(f"release: dist/{os.path.basename(path)}, {os.path.getsize(path):,} bytes")

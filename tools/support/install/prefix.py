@@ -7,12 +7,10 @@ installs the library that stands in a folder, for `make install` of bindings/c.
 
 import os
 import re
-import shutil
 import sys
 import tempfile
 
-from support import command
-from support.command import ROOT, output, read, write
+from support.command import ROOT, begin, output, put, read, write
 from support.library import c_library
 from support.version import FORMATTERS, version
 
@@ -33,22 +31,6 @@ TOLD = {
     "prettyless-config.cmake": "lib/cmake/prettyless",
     "prettyless-config-version.cmake": "lib/cmake/prettyless",
 }
-
-
-def put(path, to, mode=0o644):
-    """Copies a file to a place, where a running program may have the old one open."""
-    os.makedirs(os.path.dirname(to), exist_ok=True)
-    shutil.copyfile(path, f"{to}.new")
-    os.chmod(f"{to}.new", mode)
-    os.replace(f"{to}.new", to)
-    return to
-
-
-def link(path, to):
-    """Makes a link to a file of the same folder, in place of what stands there."""
-    if os.path.lexists(to):
-        os.remove(to)
-    os.symlink(os.path.basename(path), to)
 
 
 def put_program(name, made, prefix):
@@ -78,22 +60,20 @@ def description_of(folder):
 
 def put_made_library(folder, prefix, description):
     """The same of a library that stands in a folder."""
-    archive, shared = (f"{prefix}/lib/{it}" for it in (c_library.ARCHIVE, c_library.SHARED))
-    put(f"{folder}/{c_library.ARCHIVE}", archive)
+    shared = f"{prefix}/lib/{c_library.SHARED}"
+    archive = put(f"{folder}/{c_library.ARCHIVE}", f"{prefix}/lib/{c_library.ARCHIVE}")
     put(f"{folder}/{c_library.SHARED}", f"{shared}.{version()}", 0o755)
     for it in (shared, f"{prefix}/lib/{c_library.SONAME}"):
-        link(f"{shared}.{version()}", it)
+        if os.path.lexists(it):
+            os.remove(it)
+        os.symlink(f"{c_library.SHARED}.{version()}", it)
     header = put(f"{C}/prettyless.h", f"{prefix}/include/prettyless.h")
-    return [archive, shared, header, *put_told(prefix, description)]
+    return [archive, shared, header, *(write(f"{prefix}/{place}/{it}", told(it, description)) for it, place in TOLD.items())]
 
 
-def put_told(prefix, description):
-    """Installs what tells pkg-config and CMake where the library is. The files."""
-    placed = []
-    for name, place in TOLD.items():
-        text = read(f"{C}/{name}.in").replace("@VERSION@", version()).replace("@DESCRIPTION@", description)
-        placed.append(write(f"{prefix}/{place}/{name}", text))
-    return placed
+def told(name, description):
+    """What tells pkg-config or CMake where the library is."""
+    return read(f"{C}/{name}.in").replace("@VERSION@", version()).replace("@DESCRIPTION@", description)
 
 
 def put_wheel(code, folder, is_proved):
@@ -104,14 +84,10 @@ def put_wheel(code, folder, is_proved):
         return [output(words, PRETTYLESS=library, PYTHONDONTWRITEBYTECODE="1").strip()]
 
 
-def main(about):
-    reader = command.Reader(about)
-    reader.add_argument("library")
-    reader.add_argument("prefix")
-    options = reader.parse_args()
+def main(options):
     folder, prefix = map(os.path.abspath, (options.library, options.prefix))
     print("\n".join(put_made_library(folder, prefix, description_of(folder))))
 
 
 if __name__ == "__main__":
-    command.begin(main, __doc__)
+    begin("install.prefix", __doc__)

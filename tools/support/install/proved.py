@@ -10,8 +10,8 @@ import shutil
 import subprocess
 import time
 
-from support.command import Failed, status_of, write
-from support.crates import PARTS, below, with_below
+from support.command import Failed, ended, write
+from support.crates import PARTS, below, copy_parts, with_below
 from support.proof_times import ProofTimes, crate_of
 from support.toolchain import prove_static
 
@@ -35,19 +35,12 @@ class Prover:
         return list({it.name: it for it in found}.values())
 
     def copy(self, wanted):
-        """Copies these crates to a repository of their own."""
         os.makedirs(f"{self.root}/.git")
         write(f"{self.root}/crates.txt", "".join(f"{it.line}\n" for it in wanted))
         if os.path.exists(self.handles):
             shutil.copy(self.handles, f"{self.root}/HANDLES")
         for it in wanted:
-            for part in (*PARTS, *RUN_ON):
-                path, to = f"{it.folder}/{part}", f"{self.root}/crates/{it.name}/{part}"
-                if os.path.isdir(path):
-                    shutil.copytree(path, to)
-                elif os.path.exists(path):
-                    os.makedirs(os.path.dirname(to), exist_ok=True)
-                    shutil.copy(path, to)
+            copy_parts(it, f"{self.root}/crates/{it.name}", (*PARTS, *RUN_ON))
 
     def prove(self, names, say):
         """Proves these crates and those below them, and says of each how long it took."""
@@ -65,37 +58,31 @@ class Prover:
         except BaseException:
             ran.terminate()
             raise
-        _, ended, usage = os.wait4(ran.pid, 0)
-        ran.returncode = status_of(ended)
+        _, seconds = ended(ran)
         times.stop()
         lacking = [it.name for it in wanted if it.name not in {*self.proved, *self.kept}]
         # The status is also that of programs, which `rt ci` runs on their examples: those are tests, and nothing here.
         if lacking:
             raise Failed(f"not proved: {' '.join(lacking)}", "".join(printed[-200:]))
-        seconds = usage.ru_utime + usage.ru_stime
         say(f"{len(self.proved)} crates proved and {len(self.kept)} kept", seconds, time.monotonic() - began)
 
     def read(self, line, times, say):
-        """Takes note of a line of `rt ci`."""
         done = DONE.match(line)
-        if done and done[2] == "proved":
-            self.proved.append(done[1])
-            say(f"{done[1]} proved", times.of(done[1]))
-        elif done and done[2] == "NOT PROVED":
-            say(f"{done[1]} NOT PROVED", times.of(done[1]))
-        elif done:
+        if done and done[2].startswith("is kept:"):
             self.kept.append(done[1])
             say(f"{done[1]} kept: an earlier run on this machine proved it")
+        elif done:
+            self.proved += [done[1]] * (done[2] == "proved")
+            say(f"{done[1]} {done[2]}", times.of(done[1]))
 
     def library(self, crate):
-        """Where the proved library of a crate stands."""
-        return f"{self.root}/crates/{crate.name}/out/rlib/{crate.name}.rlib"
+        return crate._replace(folder=f"{self.root}/crates/{crate.name}").rlib
 
-    def program(self, name, to):
-        shutil.copy(f"{self.root}/crates/{name}/out/{name}", to)
-
-    def static_library(self, name, to):
-        """Proves a static library over the libraries below it, and builds its archive."""
+    def build(self, name, to):
+        """Copies a program, or proves a static library over the libraries below it, and builds its archive."""
+        if not self.crates[name].is_static:
+            shutil.copy(f"{self.root}/crates/{name}/out/{name}", to)
+            return
         libraries = {it.name: self.library(it) for it in below([name], self.crates)}
         printed, status = prove_static(self.crates[name], libraries, to)
         if status:

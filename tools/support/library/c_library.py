@@ -27,12 +27,12 @@ def joined(code, to):
     output(["objcopy", "--strip-unneeded", *[f"--keep-global-symbol={call}" for call in CALLS], to])
 
 
-def check_names(what, shown, wanted):
-    """Compares the names that `nm` shows with those that are wanted."""
-    lines = [line for line in shown.splitlines() if line.strip() and not line.endswith(":")]
+def check_names(what, path, options, wanted):
+    """Compares the names that `nm` shows of a library with those that are wanted."""
+    lines = [line for line in output(["nm", *options, path]).splitlines() if line.strip() and not line.endswith(":")]
     names = {line.split()[-1].split("@")[0] for line in lines}
     if not names <= wanted or (wanted == set(CALLS) and names != wanted):
-        raise Failed(f"{what}: {' '.join(sorted(names))}")
+        raise Failed(f"names {what} {os.path.basename(path)}: {' '.join(sorted(names))}")
 
 
 def build(code, folder):
@@ -44,9 +44,9 @@ def build(code, folder):
         output(["ar", "rcsD", f"{room}/{ARCHIVE}", whole])
         linked = ["-Wl,--gc-sections", "-Wl,-z,defs", "-Wl,-z,noexecstack", f"-Wl,-soname,{SONAME}"]
         output(["gcc", "-shared", "-s", *linked, "-o", f"{room}/{SHARED}", whole])
-        check_names(f"names of {ARCHIVE}", output(["nm", "-g", "--defined-only", f"{room}/{ARCHIVE}"]), set(CALLS))
-        check_names(f"names of {SHARED}", output(["nm", "-D", "--defined-only", f"{room}/{SHARED}"]), set(CALLS))
-        check_names(f"wanted by {ARCHIVE}", output(["nm", "-u", f"{room}/{ARCHIVE}"]), OF_LIBC)
+        check_names("defined in", f"{room}/{ARCHIVE}", ["-g", "--defined-only"], set(CALLS))
+        check_names("defined in", f"{room}/{SHARED}", ["-D", "--defined-only"], set(CALLS))
+        check_names("wanted by", f"{room}/{ARCHIVE}", ["-u"], OF_LIBC)
         # Each is a file of its own: `rt ci` refuses links in a repository.
         for made, name in ((ARCHIVE, ARCHIVE), (SHARED, SHARED), (SHARED, SONAME)):
             if os.path.lexists(f"{folder}/{name}"):

@@ -1,17 +1,17 @@
 """The library for other languages, built, and the tests of each language."""
 
 import functools
+import glob
 import os
 import re
 import shutil
 import sys
 import tempfile
 import traceback
-import zipfile
 from concurrent.futures import ThreadPoolExecutor
 
 from support import built, command
-from support.command import ROOT, Failed, Reader, content, need, read
+from support.command import ROOT, Failed, content, need, read
 from support.library import c_library
 from support.toolchain import need_rt
 from support.web import module
@@ -27,18 +27,17 @@ run = functools.partial(command.output, seconds=SECONDS)
 
 
 def counted(pattern, text):
-    """The sum of the numbers that a pattern finds."""
     return sum(int(it) for it in re.findall(pattern, text, re.M))
 
 
+def tests_in(pattern, written):
+    """How many tests ran, as what they wrote says: one at least."""
+    if not counted(pattern, written):
+        raise Failed("no test ran", written)
+    return counted(pattern, written)
+
+
 # The library
-
-
-def build_library():
-    """Makes the archive and the shared library of the code that is proved. The module is made by the part that tests it."""
-    if os.path.exists(module_in(OUT)):
-        os.remove(module_in(OUT))
-    return c_library.build(built.static_library(), OUT)
 
 
 def module_in(library):
@@ -112,20 +111,14 @@ def check_installed(library, prefix):
 def python_tests(folder, environment, files="test*.py"):
     """How many tests of this folder ran, the examples of the documentation among them."""
     words = [sys.executable, "-W", "error", "-m", "unittest", "discover", "-s", "tests", "-p", files]
-    written = run(words, folder, **environment)
-    tests = counted(r"^Ran (\d+) test", written)
-    if tests == 0:
-        raise Failed(f"no test ran in {folder}", written)
-    return tests
+    return tests_in(r"^Ran (\d+) test", run(words, folder, **environment))
 
 
 def python_environment(library, packages):
-    """The library and the packages that Python is to take, and no files beside them."""
     return {"PRETTYLESS": library, "PYTHONPATH": packages, "PYTHONDONTWRITEBYTECODE": "1"}
 
 
 def test_python(library):
-    """Runs the tests of the package where it stands, and the examples of the page."""
     source = f"{BINDINGS}/python"
     environment = python_environment(f"{library}/libprettyless.so", source)
     run([sys.executable, "-m", "doctest", f"{ROOT}/docs/BINDINGS.md"], **environment)
@@ -139,24 +132,21 @@ def test_wheel(library):
     with tempfile.TemporaryDirectory() as folder:
         environment = python_environment(f"{library}/libprettyless.so", source)
         run([sys.executable, "make_wheel.py", folder], source, **environment)
-        [wheel] = [it for it in os.listdir(folder) if it.endswith(".whl")]
-        with zipfile.ZipFile(f"{folder}/{wheel}") as packed:
-            packed.extractall(folder)
+        [wheel] = glob.glob(f"{folder}/*.whl")
+        shutil.unpack_archive(wheel, folder, "zip")
         shutil.copytree(f"{source}/tests", f"{folder}/tests")
         shutil.copy(f"{source}/README.md", folder)
         return {"tests": python_tests(folder, python_environment("", folder), "test_yezhgulo.py")}
 
 
 def test_rust(library):
-    """Runs the tests of the crate, those in its documentation among them, and its examples."""
     source, target = f"{BINDINGS}/rust", f"{OUT}/rust"
     environment = {"PRETTYLESS_LIB": library, "CARGO_TARGET_DIR": target}
     written = run(["cargo", "test", "--offline", "--release"], source, **environment)
     for example in sorted(os.listdir(f"{source}/examples")):
-        words = ["cargo", "run", "--offline", "--release", "--example", example.split(".")[0]]
-        run(words, source, b"", **environment)
+        run(["cargo", "run", "--offline", "--release", "--example", example.split(".")[0]], source, **environment)
     cases = replay([f"{target}/release/examples/replay"])
-    return {"cases": cases, "tests": counted(r"^test result: ok\. (\d+) passed", written)}
+    return {"cases": cases, "tests": tests_in(r"^test result: ok\. (\d+) passed", written)}
 
 
 def test_javascript(library):
@@ -169,10 +159,7 @@ def test_javascript(library):
         shutil.copytree(f"{BINDINGS}/javascript/tests", f"{folder}/tests")
         cases = replay(["node", "tests/replay.js"], folder, PRETTYLESS_WASM="")
         written = run(["node", "--test", "tests/package.test.js"], folder, PRETTYLESS_WASM="")
-        tests = counted(r"^\S+ pass (\d+)", written)
-        if tests == 0:
-            raise Failed("no test of JavaScript ran", written)
-        return {"cases": cases, "tests": tests}
+        return {"cases": cases, "tests": tests_in(r"^\S+ pass (\d+)", written)}
 
 
 def test_fuzz(library):
@@ -191,43 +178,34 @@ def result_of(name, library):
     """What a part counted, or how it went wrong."""
     try:
         return PARTS[name](library)
-    except Failed as failed:
-        return failed
     except Exception as error:  # A fault of this script ends that part alone.
-        return Failed(str(error), traceback.format_exc())
+        return error if isinstance(error, Failed) else Failed(str(error), traceback.format_exc())
 
 
 def last_line(results):
     """One line of counts: of each part, and of all tests together."""
     languages = [name for name in LANGUAGES if name in results]
     cases = min(results[name]["cases"] for name in languages)
-    kinds = ("programs", "json", "toml", "tests")
-    programs, json, toml, tests = [sum(it.get(what, 0) for it in results.values()) for what in kinds]
+    programs, json, toml, tests = [sum(it.get(what, 0) for it in results.values()) for what in ("programs", "json", "toml", "tests")]
     through = f"{cases:,} cases through each of {', '.join(languages[:-1])} and {languages[-1]}"
     texts = f"{json:,} JSON texts, {toml:,} TOML texts"
     left_out = "" if "JavaScript" in results else "; JavaScript was left out, for there is no module"
     return f"bindings: {through}, {programs:,} programs, {texts}, {tests:,} tests: none wrong{left_out}"
 
 
-def main(about):
-    reader = Reader(about)
-    reader.add_argument("--library")
-    reader.add_argument("--parts", type=int, default=min(4, os.cpu_count() or 1))
-    options = reader.parse_args()
+def main(options):
     need(NEEDED)
-    if options.library:
-        library = os.path.abspath(options.library)
-    else:
+    library = os.path.abspath(options.library or OUT)
+    if not options.library:
         need_rt()
-        library = build_library()
+        if os.path.exists(module_in(OUT)):  # The part that tests it makes it.
+            os.remove(module_in(OUT))
+        c_library.build(built.static_library(), OUT)
     parts = [name for name in PARTS if name != "JavaScript" or not options.library or os.path.exists(module_in(library))]
-    with ThreadPoolExecutor(max(1, options.parts)) as pool:
+    with ThreadPoolExecutor(max(1, options.parts or min(4, os.cpu_count() or 1))) as pool:
         results = dict(zip(parts, pool.map(lambda name: result_of(name, library), parts)))
     failed = {name: it for name, it in results.items() if isinstance(it, Failed)}
     for name, why in failed.items():
         print(f"== {name}\n{why.printed}\n{why}")
-    if failed:
-        print(f"bindings: failed: {', '.join(failed)}")
-        return 1
-    print(last_line(results))
-    return 0
+    print(f"bindings: failed: {', '.join(failed)}" if failed else last_line(results))
+    return 1 if failed else 0

@@ -6,9 +6,10 @@ import re
 import subprocess
 import tempfile
 from concurrent.futures import ThreadPoolExecutor
+from pathlib import Path
 
 from support import built, command
-from support.command import SUPPORT, Failed, Reader, content, output, write
+from support.command import SUPPORT, Failed, content, output, write
 from support.memory.runs import Ending, all_runs, is_right, name_of, without_table
 
 # The most that one run may take. They take some milliseconds.
@@ -28,7 +29,6 @@ CHECKED_RUN = re.compile(r"^== (\d+)\n(.*?)(?:^allocations: [^\n]*\n)?^case=\1 r
 
 
 def shim_in(folder):
-    """Compiles the library that refuses."""
     path = f"{folder}/refuse.so"
     output(["cc", "-O2", "-shared", "-fPIC", "-o", path, f"{SUPPORT}/memory/refuse.c"])
     return path
@@ -46,8 +46,7 @@ def end_of(run, program, environment):
     """Makes a run in a folder of its own."""
     with tempfile.TemporaryDirectory() as folder:
         for name, text in run.files.items():
-            with open(f"{folder}/{name}", "wb") as file:
-                file.write(text)
+            Path(folder, name).write_bytes(text)
         how = {"stdout": subprocess.PIPE, "stderr": subprocess.PIPE, "timeout": SECONDS}
         ended = subprocess.run([program, *run.words], cwd=folder, input=run.given, env=environment, **how)
         files = {name: content(f"{folder}/{name}") for name in os.listdir(folder)}
@@ -69,25 +68,16 @@ def refused_at(run, program, shim, number):
 
 
 def refuse_each(run, program, shim):
-    """Makes a run for each of its requests, and one more. How many requests there are."""
-    check_requests(program)
-    endings = []
-    for number in itertools.count(1):
-        ending = refused_at(run, program, shim, number)
-        if ending is None:
-            break
-        endings.append(ending)
-    if not endings or run.other and run.other not in endings:
-        raise Failed(f"{name_of(run)}: {len(endings)} requests were refused, and none led to its other ending")
-    return len(endings)
-
-
-def result_of(run, program, shim):
-    """How many requests of a run were refused, or how one went wrong."""
+    """Makes a run for each of its requests, and one more. How many requests there are, or how a run went wrong."""
     try:
-        return refuse_each(run, program, shim)
+        check_requests(program)
+        each = (refused_at(run, program, shim, number) for number in itertools.count(1))
+        endings = list(itertools.takewhile(lambda it: it is not None, each))
     except Failed as failed:
         return failed
+    if not endings or run.other and run.other not in endings:
+        return Failed(f"{name_of(run)}: {len(endings)} requests were refused, and none led to its other ending")
+    return len(endings)
 
 
 def refuse_all(program_of):
@@ -96,7 +86,7 @@ def refuse_all(program_of):
     programs = {name: program_of(name) for name in sorted({it.program for it in runs})}
     with tempfile.TemporaryDirectory() as folder, ThreadPoolExecutor(PARTS) as pool:
         shim = shim_in(folder)
-        results = list(pool.map(lambda it: result_of(it, programs[it.program], shim), runs))
+        results = list(pool.map(lambda it: refuse_each(it, programs[it.program], shim), runs))
     for run, result in zip(runs, results):
         print(result if isinstance(result, Failed) else f"{name_of(run)}: {result}")
     wrong = [it for it in results if isinstance(it, Failed)]
@@ -140,12 +130,7 @@ def refuse_checked():
     return count
 
 
-def main(about):
-    reader = Reader(about)
-    forms = reader.add_mutually_exclusive_group()
-    forms.add_argument("--programs")
-    forms.add_argument("--checked", action="store_true")
-    options = reader.parse_args()
+def main(options):
 
     def program_of(name):
         return os.path.abspath(f"{options.programs}/{name}") if options.programs else built.program(name)

@@ -4,7 +4,7 @@ import re
 from collections import namedtuple
 
 from support import built
-from support.command import SUPPORT, content
+from support.command import SUPPORT, content, read
 
 # How a run ends: its status, what it writes, what it says on standard error, and the files that then stand in its folder.
 Ending = namedtuple("Ending", "status out said files")
@@ -70,24 +70,18 @@ FORMATTING = [
 
 def groups(end):
     """A case of forty groups in groups within two alternatives. The printer goes on over a table, since many are broken."""
-    nested = "t 61"
-    for _ in range(39):
-        front = "app " * 20 + "app t 61 bof hl t 20" + " nil" * 20
-        nested = f"grp app {front} {nested}"
-    inner = f"app {nested} {end}"
+    front = "app " * 20 + "app t 61 bof hl t 20" + " nil" * 20
+    inner = f"app {f'grp app {front} ' * 39}t 61 {end}"
     for _ in range(2):
         inner = f"uni app app sfx t 74 t 78 {inner} app sfx t 75 t 79"
     return f"50 lf eager app app t 70 sfx t 73 {inner}"
 
 
 def stored(name):
-    """Each case of a file, and its outcome."""
-    lines = content(f"{SUPPORT}/memory/{name}.cases").decode().splitlines()
-    return [tuple(line.split(" => ")) for line in lines if not line.startswith("#")]
+    return re.findall(r"^([^#].*) => (.*)$", read(f"{SUPPORT}/memory/{name}.cases"), re.M)
 
 
 def over_tables():
-    """Two cases of groups, and their outcomes."""
     # The 25 last letters take 49 columns. Those before them have lines of their own, the first one with the suffixes.
     kept = b"pxxastt" + 15 * b"\na" + 24 * b" a"
     return [(groups("nil"), f"ok {kept.hex()}"), (groups("fail"), f"ok {b'pxystu'.hex()}")]

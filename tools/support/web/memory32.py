@@ -38,8 +38,6 @@ def unknown(what):
 
 
 class Reader:
-    """Reads bytes in order."""
-
     def __init__(self, data, at=0):
         self.data, self.at = data, at
 
@@ -72,7 +70,6 @@ class Reader:
 
 
 def unsigned(value):
-    """The bytes of a number."""
     out = bytearray()
     while value > 127:
         out.append(value & 127 | 128)
@@ -111,7 +108,6 @@ def read_instruction(reader):
 
 
 def operands(code, reader):
-    """What stands after an instruction."""
     if code in NUMBERS:
         numbers = [reader.number() for _ in range(NUMBERS[code])]
         if max(numbers) >= 2**32:
@@ -243,21 +239,15 @@ def read_data(reader):
 
 
 def lowered(module):
-    """The module with a memory of 32 bits."""
-    if module[: len(HEAD)] != HEAD:
+    if not module.startswith(HEAD):
         raise unknown("a file that is no module")
     reader, sections = Reader(module, len(HEAD)), []
     while not reader.ends():
-        kind = reader.byte()
-        sections.append((kind, reader.bytes(reader.number())))
+        sections.append((reader.byte(), reader.bytes(reader.number())))
     found = dict(sections)
     parameters = items_of(found[TYPES], read_type)
     of_functions = iter([parameters[it] for it in items_of(found[FUNCTIONS], Reader.number)])
-    readers = {
-        TABLES: read_table,
-        MEMORIES: read_memory,
-        DATA: read_data,
-        CODE: lambda it: sized(Function(it.bytes(it.number()), next(of_functions)).lowered()),
-    }
+    readers = {TABLES: read_table, MEMORIES: read_memory, DATA: read_data}
+    readers[CODE] = lambda it: sized(Function(it.bytes(it.number()), next(of_functions)).lowered())
     made = [(kind, vector(items_of(it, readers[kind])) if kind in readers else it) for kind, it in sections if kind != CUSTOM]
     return HEAD + b"".join(bytes([kind]) + sized(it) for kind, it in made)

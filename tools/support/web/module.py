@@ -8,6 +8,7 @@ heap is imported: bindings/javascript/heap.js.
 import os
 import re
 import tempfile
+from pathlib import Path
 
 from support import built
 from support.command import Failed, content, output, read, write
@@ -25,13 +26,6 @@ FLAGS = """-mcpu=lime1 -mllvm -expand-div-rem-bits=64 -mllvm -expand-fp-convert-
     -fintegrated-cc1 -fno-crash-diagnostics -Werror -Wno-override-module -O3 -c""".split()
 # What the processor is there, and which calls of the C library it lacks.
 PROCESSOR = '"target-cpu"="lime1" "no-builtin-bcmp" "no-builtin-memcmp" "no-builtin-strlen"'
-
-
-def proved_code(folder):
-    """The text of the code of the calls, which is proved."""
-    text = f"{folder}/library.ll"
-    output([f"{kit()}/toolchain/bin/clang", "-x", "ir", built.code(), *AS_TEXT, "-o", text])
-    return read(text)
 
 
 def replaced(pattern, by, code):
@@ -70,15 +64,9 @@ def linked(code, folder):
     return module
 
 
-def module_of(code, folder, to):
-    """Makes the module of a code at this path."""
-    narrow = memory32.lowered(content(linked(for_wasm(code), folder)))
-    os.makedirs(os.path.dirname(to), exist_ok=True)
-    with open(to, "wb") as file:
-        file.write(narrow)
-
-
 def build(to):
-    """Makes the module of the code that is proved at this path."""
     with tempfile.TemporaryDirectory() as folder:
-        module_of(proved_code(folder), folder, to)
+        text = f"{folder}/library.ll"
+        output([f"{kit()}/toolchain/bin/clang", "-x", "ir", built.code(), *AS_TEXT, "-o", text])
+        os.makedirs(os.path.dirname(to), exist_ok=True)
+        Path(to).write_bytes(memory32.lowered(content(linked(for_wasm(read(text)), folder))))

@@ -6,8 +6,7 @@ import re
 import sys
 
 from support import built
-from support.command import ROOT, Failed, Reader, content, need, read, write
-from support.install.prefix import put
+from support.command import ROOT, Failed, content, need, put, read, write
 from support.toolchain import need_rt
 from support.version import FORMATTERS
 from support.web import module
@@ -39,11 +38,7 @@ def as_script(name):
 def page_of(path):
     """Puts the module, the styles and the scripts into one file: each `@@NAME@@` of page.html is that file."""
     parts = {"module": base64.b64encode(content(path)).decode(), "package": "\n".join(as_script(it) for it in MODULES)}
-
-    def part(found):
-        name = found.group(1)
-        return parts[name] if name in parts else read(f"{WEB}/{name}").rstrip("\n")
-
+    part = lambda found: parts.get(found[1]) or read(f"{WEB}/{found[1]}").rstrip("\n")  # noqa: E731
     return write(f"{OUT}/yezhgulo.html", re.sub(r"@@([\w.]+)@@", part, read(f"{WEB}/page.html")))
 
 
@@ -73,13 +68,7 @@ def test(page, folder, pictures):
 # The command
 
 
-def main(about):
-    reader = Reader(about)
-    reader.add_argument("--module")
-    reader.add_argument("--test", action="store_true")
-    reader.add_argument("--formatters")
-    reader.add_argument("--pictures", default=OUT)
-    options = reader.parse_args()
+def main(options):
     need(NEEDED_BY_TEST if options.test else {})
     path = options.module or f"{ROOT}/bindings/out/{module.NAME}"
     if not options.module:
@@ -90,4 +79,4 @@ def main(about):
     print(f"web: {os.path.relpath(page)}, {os.path.relpath(package)}: {sizes}", flush=True)
     os.environ["PRETTYLESS_WASM"] = os.path.abspath(path)
     if options.test:
-        test(page, os.path.abspath(options.formatters or formatters()), options.pictures)
+        test(page, os.path.abspath(options.formatters or formatters()), options.pictures or OUT)

@@ -1,1 +1,0 @@
-"""tools/edits: wrong bodies, and what the check says of them."""

@@ -1,1 +1,0 @@
-"""tools/install and tools/release: what is built with a proof or without one, and what stands where below a prefix."""

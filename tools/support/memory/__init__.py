@@ -1,1 +1,0 @@
-"""tools/refuse_memory: runs of programs that are refused memory."""

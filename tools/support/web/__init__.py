@@ -1,1 +1,0 @@
-"""tools/web: the library's module for WebAssembly, the package for JavaScript, and the page."""
