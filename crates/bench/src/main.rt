@@ -25,7 +25,7 @@ mod workload;
 
 use failure::Failure;
 use report::{compare, sizes, time_all, time_wide, time_workload};
-use request::{Request, requested};
+use request::{BenchRequest, requested};
 use std::env;
 use std::process::ExitCode;
 use std::rt::{Clock, Env, Files};
@@ -33,11 +33,11 @@ use std::rt::{Clock, Env, Files};
 fn run<R: AllocGlobal + Clock + Env + Files + Print>(rt: &R) -> Result<(), Failure> {
     let words: Vec<String> = env::args(rt)?.skip(1).collect(rt.alloc())?;
     match requested(&words).ok_or(Failure::Words)? {
-        Request::Compare => compare(rt),
-        Request::Sizes => sizes(rt),
-        Request::TimeAll => time_all(rt),
-        Request::Time(workload) => time_workload(rt, workload),
-        Request::TimeWide(workload) => time_wide(rt, workload),
+        BenchRequest::Compare => compare(rt),
+        BenchRequest::Sizes => sizes(rt),
+        BenchRequest::TimeAll => time_all(rt),
+        BenchRequest::Time(workload) => time_workload(rt, workload),
+        BenchRequest::TimeWide(workload) => time_wide(rt, workload),
     }
 }
 

@@ -3,7 +3,7 @@
 use crate::checksum::checksum;
 use crate::document::document;
 use crate::failure::Failure;
-use crate::workload::Workload;
+use crate::workload::{Shape, Workload};
 use bumpalo::Bump;
 use prettyless::{Arena, Doc, DocPlace, DocPtr};
 use std::alloc::Global;
@@ -15,7 +15,7 @@ const RENDERS: usize = 5;
 
 /// A document in an arena, and its layout.
 #[derive(Clone, Copy)]
-pub(crate) struct Laid {
+pub(crate) struct LaidDocument {
     /// How many nodes the arena placed.
     pub nodes: usize,
     /// The length of the layout, in bytes.
@@ -37,25 +37,26 @@ pub(crate) struct Timed {
     pub render: Duration,
 }
 
-// The layout of a workload.
+// The layout of a document within a width.
 fn layout<'a, D: DocPlace<'a>>(
     alloc: Global,
     place: &'a D,
-    workload: Workload,
+    shape: Shape,
     size: usize,
+    width: usize,
 ) -> Result<String, Failure> {
-    let root = document(place, workload, size)?;
+    let root = document(place, shape, size)?;
     let mut out = String::new(alloc);
-    root.doc().render_fmt(alloc, workload.width(), &mut out)?;
+    root.doc().render_fmt(alloc, width, &mut out)?;
     Ok(out)
 }
 
 /// Lays a workload out.
-pub(crate) fn lay(alloc: Global, workload: Workload, size: usize) -> Result<Laid, Failure> {
+pub(crate) fn lay(alloc: Global, workload: Workload, size: usize) -> Result<LaidDocument, Failure> {
     let bump = Bump::new(alloc);
     let arena = Arena::new(alloc, &bump);
-    let out = layout(alloc, &arena, workload, size)?;
-    Ok(Laid {
+    let out = layout(alloc, &arena, workload.shape, size, workload.width)?;
+    Ok(LaidDocument {
         nodes: arena.len(),
         bytes: out.len(),
         checksum: checksum(out.as_bytes()),
@@ -95,29 +96,29 @@ fn time_in<'a, C: Clock, D: DocPlace<'a>>(
     clock: &C,
     alloc: Global,
     place: &'a D,
-    workload: Workload,
+    shape: Shape,
     size: usize,
     width: usize,
 ) -> Result<(usize, Duration, Duration), Failure> {
     let start = Instant::now(clock)?;
-    let root = document(place, workload, size)?;
+    let root = document(place, shape, size)?;
     let build = start.elapsed(clock)?;
     let mut out = String::new(alloc);
     let render = least_render(clock, alloc, width, root.doc(), &mut out)?;
     Ok((out.len(), build, render))
 }
 
-/// Builds a workload and lays it out several times within this width.
+/// Builds a document and lays it out several times within this width.
 pub(crate) fn time<C: Clock>(
     clock: &C,
     alloc: Global,
-    workload: Workload,
+    shape: Shape,
     size: usize,
     width: usize,
 ) -> Result<Timed, Failure> {
     let bump = Bump::new(alloc);
     let arena = Arena::new(alloc, &bump);
-    let (bytes, build, render) = time_in(clock, alloc, &arena, workload, size, width)?;
+    let (bytes, build, render) = time_in(clock, alloc, &arena, shape, size, width)?;
     Ok(Timed {
         nodes: arena.len(),
         bytes,

@@ -11,8 +11,8 @@ use std::rt::{Clock, Files};
 /// Prints a line for the layout of each workload at its small size.
 pub fn compare<R: AllocGlobal + Print>(rt: &R) -> Result<(), Failure> {
     for &workload in WORKLOADS {
-        let laid = lay(rt.alloc(), workload, workload.small_size())?;
-        let name = workload.name();
+        let laid = lay(rt.alloc(), workload, workload.small_size)?;
+        let name = workload.name;
         println!(rt;
             "{name} {} {} {:08x}",
             laid.nodes, laid.bytes, laid.checksum
@@ -66,9 +66,9 @@ fn time_at<R: AllocGlobal + Clock + Files + Print>(
     size: usize,
     width: usize,
 ) -> Result<(), Failure> {
-    let name = workload.name();
+    let name = workload.name;
     let counts = forget_peak(rt);
-    let timed = time(rt, rt.alloc(), workload, size, width)?;
+    let timed = time(rt, rt.alloc(), workload.shape, size, width)?;
     let nanos = timed.render.as_nanos() / timed.nodes.max(1) as u128;
     print!(rt;
         "{name} {size}: {} nodes, {} bytes, built in {} us, laid out in {} us, {nanos} ns a node",
@@ -85,8 +85,8 @@ pub fn time_workload<R: AllocGlobal + Clock + Files + Print>(
     rt: &R,
     workload: Workload,
 ) -> Result<(), Failure> {
-    for size in workload.full_sizes() {
-        time_at(rt, workload, *size, workload.width())?;
+    for size in workload.full_sizes {
+        time_at(rt, workload, *size, workload.width)?;
     }
     Ok(())
 }
@@ -96,7 +96,7 @@ pub fn time_wide<R: AllocGlobal + Clock + Files + Print>(
     rt: &R,
     workload: Workload,
 ) -> Result<(), Failure> {
-    for size in workload.full_sizes() {
+    for size in workload.full_sizes {
         time_at(rt, workload, *size, *size)?;
     }
     Ok(())

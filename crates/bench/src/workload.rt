@@ -1,14 +1,17 @@
 //! What is measured.
+use crate::workload::Shape::{
+    BareGroups, CellLines, ChoiceGroups, ChosenGroups, CommentGroups, Fill, Json, KeptTrials,
+    Lines, List, PartialGroups, RealJson, RejectedTrials, RightList, SpacedGroups, Sums,
+    TailGroups, TextGroups, Tree, UnionGroups, WeakSpaces,
+};
 
-/// A kind of document. Its size is a number of atoms, records, groups, words, lines, trials or objects.
-#[derive(Clone, Copy, Debug, PartialEq, Eq)]
-pub enum Workload {
+/// What the document of a workload is. Its size is a number of atoms, records, groups, words, lines, trials or objects.
+#[derive(Clone, Copy)]
+pub enum Shape {
     /// Lists of ten, in lists of ten, and so on. The atoms are the greatest power of ten up to the size.
     Tree,
-    /// One list that is broken.
+    /// One list.
     List,
-    /// The same in one line.
-    FlatList,
     /// Records of several fields.
     Json,
     /// Groups in groups, with a text in each.
@@ -49,134 +52,54 @@ pub enum Workload {
     ChosenGroups,
 }
 
-/// All of them, as they are printed.
-pub const WORKLOADS: &[Workload] = &[
-    Workload::Tree,
-    Workload::List,
-    Workload::FlatList,
-    Workload::Json,
-    Workload::TextGroups,
-    Workload::BareGroups,
-    Workload::Fill,
-    Workload::Lines,
-    Workload::KeptTrials,
-    Workload::RejectedTrials,
-    Workload::TailGroups,
-    Workload::RightList,
-    Workload::WeakSpaces,
-    Workload::RealJson,
-    Workload::Sums,
-    Workload::SpacedGroups,
-    Workload::CommentGroups,
-    Workload::UnionGroups,
-    Workload::PartialGroups,
-    Workload::CellLines,
-    Workload::ChoiceGroups,
-    Workload::ChosenGroups,
-];
-
-impl Workload {
+/// Documents of one shape, and how they are laid out.
+#[derive(Clone, Copy)]
+pub struct Workload {
     /// The word that names it.
-    pub(crate) fn name(self) -> &'static str {
-        match self {
-            Workload::Tree => "tree",
-            Workload::List => "list",
-            Workload::FlatList => "flat",
-            Workload::Json => "json",
-            Workload::TextGroups => "texts",
-            Workload::BareGroups => "bare",
-            Workload::Fill => "fill",
-            Workload::Lines => "lines",
-            Workload::KeptTrials => "kept",
-            Workload::RejectedTrials => "lost",
-            Workload::TailGroups => "tails",
-            Workload::RightList => "right",
-            Workload::WeakSpaces => "weak",
-            Workload::RealJson => "real",
-            Workload::Sums => "sums",
-            Workload::SpacedGroups => "spaces",
-            Workload::CommentGroups => "remarks",
-            Workload::UnionGroups => "unions",
-            Workload::PartialGroups => "partial",
-            Workload::CellLines => "records",
-            Workload::ChoiceGroups => "choices",
-            Workload::ChosenGroups => "chosen",
-        }
-    }
-
-    /// The width that it is laid out within, in columns.
-    pub(crate) fn width(self) -> usize {
-        match self {
-            Workload::FlatList => usize::MAX,
-            Workload::RejectedTrials => 4,
-            _ => 80,
-        }
-    }
-
-    /// The size at which its layout is compared.
-    pub(crate) fn small_size(self) -> usize {
-        match self {
-            Workload::Json | Workload::Lines | Workload::CellLines => 50,
-            Workload::BareGroups
-            | Workload::KeptTrials
-            | Workload::RejectedTrials
-            | Workload::TailGroups
-            | Workload::ChoiceGroups
-            | Workload::ChosenGroups => 100,
-            Workload::RealJson => 1,
-            _ => 1000,
-        }
-    }
-
+    pub name: &'static str,
+    /// What its documents are.
+    pub shape: Shape,
+    /// The width that they are laid out within, in columns.
+    pub width: usize,
+    /// The size at which the layout is compared.
+    pub small_size: usize,
     /// The sizes at which it is timed.
-    pub(crate) fn full_sizes(self) -> &'static [usize] {
-        match self {
-            Workload::Tree => &[100_000, 1_000_000],
-            Workload::Json => &[80_000],
-            Workload::RealJson => &[200],
-            Workload::CellLines => &[30_000],
-            Workload::ChoiceGroups => &[1_000, 3_000, 18_000],
-            Workload::ChosenGroups => &[300, 1_000, 3_000],
-            Workload::TextGroups
-            | Workload::BareGroups
-            | Workload::KeptTrials
-            | Workload::RejectedTrials
-            | Workload::TailGroups
-            | Workload::Sums
-            | Workload::SpacedGroups
-            | Workload::CommentGroups
-            | Workload::UnionGroups
-            | Workload::PartialGroups => &[1_000, 10_000, 100_000],
-            _ => &[1_000_000],
-        }
-    }
+    pub full_sizes: &'static [usize],
 }
+
+// Sizes of what grows as its size does, and of what is nested.
+const LONG: &[usize] = &[1_000_000];
+
+const DEEP: &[usize] = &[1_000, 10_000, 100_000];
+
+/// All workloads, as they are printed.
+#[rattlefmt::skip]
+pub const WORKLOADS: &[Workload] = &[
+    Workload { name: "tree", shape: Tree, width: 80, small_size: 1000, full_sizes: &[100_000, 1_000_000] },
+    Workload { name: "list", shape: List, width: 80, small_size: 1000, full_sizes: LONG },
+    Workload { name: "flat", shape: List, width: usize::MAX, small_size: 1000, full_sizes: LONG },
+    Workload { name: "json", shape: Json, width: 80, small_size: 50, full_sizes: &[80_000] },
+    Workload { name: "texts", shape: TextGroups, width: 80, small_size: 1000, full_sizes: DEEP },
+    Workload { name: "bare", shape: BareGroups, width: 80, small_size: 100, full_sizes: DEEP },
+    Workload { name: "fill", shape: Fill, width: 80, small_size: 1000, full_sizes: LONG },
+    Workload { name: "lines", shape: Lines, width: 80, small_size: 50, full_sizes: LONG },
+    Workload { name: "kept", shape: KeptTrials, width: 80, small_size: 100, full_sizes: DEEP },
+    Workload { name: "lost", shape: RejectedTrials, width: 4, small_size: 100, full_sizes: DEEP },
+    Workload { name: "tails", shape: TailGroups, width: 80, small_size: 100, full_sizes: DEEP },
+    Workload { name: "right", shape: RightList, width: 80, small_size: 1000, full_sizes: LONG },
+    Workload { name: "weak", shape: WeakSpaces, width: 80, small_size: 1000, full_sizes: LONG },
+    Workload { name: "real", shape: RealJson, width: 80, small_size: 1, full_sizes: &[200] },
+    Workload { name: "sums", shape: Sums, width: 80, small_size: 1000, full_sizes: DEEP },
+    Workload { name: "spaces", shape: SpacedGroups, width: 80, small_size: 1000, full_sizes: DEEP },
+    Workload { name: "remarks", shape: CommentGroups, width: 80, small_size: 1000, full_sizes: DEEP },
+    Workload { name: "unions", shape: UnionGroups, width: 80, small_size: 1000, full_sizes: DEEP },
+    Workload { name: "partial", shape: PartialGroups, width: 80, small_size: 1000, full_sizes: DEEP },
+    Workload { name: "records", shape: CellLines, width: 80, small_size: 50, full_sizes: &[30_000] },
+    Workload { name: "choices", shape: ChoiceGroups, width: 80, small_size: 100, full_sizes: &[1_000, 3_000, 18_000] },
+    Workload { name: "chosen", shape: ChosenGroups, width: 80, small_size: 100, full_sizes: &[300, 1_000, 3_000] },
+];
 
 /// The workload of that name.
 pub(crate) fn workload_named(word: &str) -> Option<Workload> {
-    match word {
-        "tree" => Some(Workload::Tree),
-        "list" => Some(Workload::List),
-        "flat" => Some(Workload::FlatList),
-        "json" => Some(Workload::Json),
-        "texts" => Some(Workload::TextGroups),
-        "bare" => Some(Workload::BareGroups),
-        "fill" => Some(Workload::Fill),
-        "lines" => Some(Workload::Lines),
-        "kept" => Some(Workload::KeptTrials),
-        "lost" => Some(Workload::RejectedTrials),
-        "tails" => Some(Workload::TailGroups),
-        "right" => Some(Workload::RightList),
-        "weak" => Some(Workload::WeakSpaces),
-        "real" => Some(Workload::RealJson),
-        "sums" => Some(Workload::Sums),
-        "spaces" => Some(Workload::SpacedGroups),
-        "remarks" => Some(Workload::CommentGroups),
-        "unions" => Some(Workload::UnionGroups),
-        "partial" => Some(Workload::PartialGroups),
-        "records" => Some(Workload::CellLines),
-        "choices" => Some(Workload::ChoiceGroups),
-        "chosen" => Some(Workload::ChosenGroups),
-        _ => None,
-    }
+    WORKLOADS.iter().copied().find(|it| it.name == word)
 }
