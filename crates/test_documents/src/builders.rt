@@ -1,8 +1,9 @@
 //! Each call of a builder once, with ample memory.
-use crate::expected::{built, rows, shows};
+use crate::expected::{built, check};
 use prettyless::prelude::*;
 use prettyless::{BuildDoc, Doc, DocBuilder};
 use std::process::Abort;
+use test_expectations::{rows, shows};
 
 fn of<'a, D: DocPlace<'a>>(place: &'a D, node: Doc<'a, D::Doc>) -> DocBuilder<'a, D> {
     DocBuilder::new(place, node)

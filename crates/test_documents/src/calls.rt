@@ -1,9 +1,10 @@
 //! Each call of a place of nodes once, with ample memory.
-use crate::expected::{built, failing, refuses, rows, shows};
+use crate::expected::{built, check};
 use prettyless::prelude::*;
 use prettyless::text::{BuildError, CowStr};
 use prettyless::{ColumnTest, Doc, DocBuilder, DocPtr, NestingTest};
 use std::process::Abort;
+use test_expectations::{failing, refuses, rows, shows};
 
 pub(crate) fn leaves<'a, D: DocPlace<'a>>(rt: &impl Abort, place: &'a D) {
     rows! { shows, rt, place;
@@ -40,7 +41,7 @@ pub(crate) fn texts<'a, D: DocPlace<'a>>(rt: &impl Abort, place: &'a D) {
         place.reflow(" a") => "[SoftLineOrSpace, \"a\"]";
         place.reflow("") => "Nil";
     }
-    refuses(rt, place.as_string(failing()));
+    check(rt, refuses(place.as_string(failing())), "no text");
 }
 
 // How many bytes a text has.
@@ -117,5 +118,6 @@ pub(crate) fn operands<'a, D: DocPlace<'a>, P: Pretty<'a, D> + Copy>(
         between(place, two, space()) => "[\"a\", \" \", \"b\"]";
         between(place, one, as_string(failing())) => "\"a\"";
     }
-    refuses(rt, between(place, two, as_string(failing())));
+    let refused = between(place, two, as_string(failing()));
+    check(rt, refuses(refused), "no separator");
 }

@@ -14,7 +14,7 @@ fn place_leaf<'a, D: CountedPlace<'a>>(
     leaf: Doc<'a, D::Doc>,
 ) -> Result<(), Fail> {
     place.alloc(leaf)?;
-    check(rt, place.has_no_node(), "the nodes", "a constant");
+    check(rt, place.has_no_node(), "the nodes of a constant");
     Ok(())
 }
 
@@ -45,7 +45,7 @@ fn place_lines<'a, D: DocPlace<'a>>(place: &'a D) -> Result<(), BuildError> {
 // Lines are returned, and none is placed.
 fn lines<'a, D: CountedPlace<'a>>(rt: &impl Abort, place: &'a D) -> Result<(), Fail> {
     place_lines(place)?;
-    check(rt, place.has_no_node(), "the nodes", "lines");
+    check(rt, place.has_no_node(), "the nodes of lines");
     Ok(())
 }
 
@@ -56,7 +56,7 @@ fn others<'a, D: CountedPlace<'a>>(rt: &impl Abort, place: &'a D) -> Result<(), 
     let first = place.alloc(Doc::Text(Text::Borrowed(" ")))?;
     let second = place.alloc(Doc::Text(Text::Borrowed(" ")))?;
     place.alloc(Doc::Append(first, second))?;
-    check(rt, place.nodes() == 3, "the nodes", "others");
+    check(rt, place.nodes() == 3, "the nodes of others");
     Ok(())
 }
 
@@ -89,11 +89,11 @@ pub(crate) fn no_room_at_first<'a, D: CountedPlace<'a>>(
     bump: &Bump,
     place: &'a D,
 ) -> Result<(), Fail> {
-    check(rt, refuses_a_line(place), "the line", "no room");
-    check(rt, place.has_no_node(), "the nodes", "no room");
+    check(rt, refuses_a_line(place), "a line where there is no room");
+    check(rt, place.has_no_node(), "the nodes where there is no room");
     bump.set_allocation_limit(None);
-    check(rt, places_a_group(place)?, "the group", "room");
-    check(rt, place.nodes() == 4, "the nodes", "room");
+    check(rt, places_a_group(place)?, "a group where there is room");
+    check(rt, place.nodes() == 4, "the nodes where there is room");
     Ok(())
 }
 

@@ -1,31 +1,34 @@
 //! Nodes that are not placed yet, documents in the making, and what places them: the calls that can fail.
-use crate::expected::{points, rows, shows};
+use crate::expected::check;
 use prettyless::prelude::*;
 use prettyless::text::{BuildError, CowStr, Text};
 use prettyless::{BuildDoc, Doc, DocBuilder};
 use std::fmt;
 use std::process::Abort;
+use test_expectations::{points, rows, shows};
 
-// Compares what a document in the making is shown as.
+// Whether a document in the making is shown as this text.
 fn makes<'a, D: DocPlace<'a>>(
-    rt: &impl Abort,
     place: &'a D,
     made: Result<BuildDoc<'a, D::Doc>, BuildError>,
     text: &str,
-) {
-    let made = made.expect(rt, "a document was not made");
-    shows(rt, place, Ok(DocBuilder(place, made)), text);
+) -> bool {
+    match made {
+        Ok(made) => shows(place, Ok(DocBuilder(place, made)), text),
+        Err(_) => false,
+    }
 }
 
-// Compares what a node is shown as.
+// Whether a node is shown as this text.
 fn makes_node<'a, D: DocPlace<'a>>(
-    rt: &impl Abort,
     place: &'a D,
     made: Result<Doc<'a, D::Doc>, BuildError>,
     text: &str,
-) {
-    let node = made.expect(rt, "a node was not made");
-    shows(rt, place, Ok(DocBuilder::new(place, node)), text);
+) -> bool {
+    match made {
+        Ok(node) => shows(place, Ok(DocBuilder::new(place, node)), text),
+        Err(_) => false,
+    }
 }
 
 pub(crate) fn makings<'a, D: DocPlace<'a>>(rt: &impl Abort, place: &'a D) {
@@ -71,7 +74,7 @@ pub(crate) fn owned_line<'a, D: DocPlace<'a>>(rt: &impl Abort, place: &'a D, tex
 where
     D::Doc: fmt::Debug,
 {
-    points(rt, place, line_of_an_owned_space(place), text);
+    check(rt, points(place, line_of_an_owned_space(place), text), text);
 }
 
 pub(crate) fn placings<'a, D: DocPlace<'a>>(rt: &impl Abort, place: &'a D)

@@ -1,5 +1,5 @@
 //! All calls in each place of nodes.
-use crate::{builders, calls, combined, deep, nodes, pointers, values};
+use crate::{builders, calls, deep, nodes, pointers};
 use bumpalo::Bump;
 use prettyless::prelude::*;
 use prettyless::text::Text;
@@ -28,16 +28,10 @@ where
     builders::wrappers(rt, place);
     builders::joins(rt, place);
     builders::operands(rt, place, both);
-    combined::tokens(rt, place);
-    combined::wrappers(rt, place, weak_line());
-    combined::operands(rt, place, both, two);
     nodes::makings(rt, place);
     nodes::placings(rt, place);
     pointers::leaves(rt, place);
     pointers::operands(rt, place, both, two);
-    values::texts(rt, place);
-    values::several(rt, place, both);
-    values::macros(rt, place, both);
 }
 
 fn all<'a, D: DocPlace<'a>>(rt: &impl Abort, place: &'a D)
@@ -45,29 +39,25 @@ where
     D::Doc: fmt::Debug,
 {
     each(rt, place, ("a", "b"), &["a"], &["a", "b"]);
-    values::arrays(rt, place, ["a", "b"]);
 }
 
-// `owned` is lent to the documents. A place by reference is the same place: nodes are put there, and copied.
+// A place by reference is the same place: nodes are put there, and copied.
 fn in_boxes<'a, D: DocPlace<'a, Doc = T>, T: DocPtr<'a> + Pretty<'a, D> + fmt::Debug>(
     rt: &impl Abort,
     place: &'a &'a D,
-    owned: &'a String,
 ) {
     all(rt, *place);
     nodes::placings(rt, place);
     nodes::owned_line(rt, *place, OWNED_LINE);
     pointers::values(rt, *place);
-    values::lent(rt, *place, owned);
     deep::chains(rt, *place);
 }
 
 // A test makes one call with its place, since each call with a place of a named type takes long to prove.
 #[test]
 fn boxes(rt: HostRuntime) {
-    let owned = String::from_str(rt.alloc(), "owned").expect(&rt, "memory was refused");
     let boxes = BoxAllocator::new(rt.alloc());
-    in_boxes(&rt, &&boxes, &owned);
+    in_boxes(&rt, &&boxes);
 }
 
 fn in_counted_nodes<'a, D: DocPlace<'a>>(rt: &impl Abort, place: &'a D)

@@ -1,10 +1,11 @@
 //! The constructors of pointers, and pointers as operands.
-use crate::expected::{compare, points, rows, shows};
+use crate::expected::check;
 use prettyless::prelude::*;
 use prettyless::text::CowStr;
 use prettyless::{BoxDoc, BuildDoc, ColumnTest, Doc, DocBuilder, DocPtr, NestingTest, RcDoc};
 use std::fmt;
 use std::process::Abort;
+use test_expectations::{is_shown, points, rows, shows};
 
 fn line<'a, D: DocPlace<'a>>(rt: &impl Abort, place: &'a D) -> D::Doc {
     place
@@ -70,7 +71,7 @@ pub(crate) fn values<'a, D: DocPlace<'a, Doc = T>, T: DocPtr<'a> + Pretty<'a, D>
 // beyond the prover's limits.
 pub(crate) fn taken<'a, D: DocPlace<'a>>(rt: &impl Abort, place: &'a D) {
     let pointed = DocBuilder::from_doc(place, line(rt, place));
-    shows(rt, place, Ok(pointed), "WeakLine");
+    check(rt, shows(place, Ok(pointed), "WeakLine"), "WeakLine");
 }
 
 #[test]
@@ -78,7 +79,7 @@ fn boxes_are_cloned(rt: HostRuntime) {
     let line = BoxDoc::new(rt.alloc(), Doc::HardLine).expect(&rt, "a node was not placed");
     let copy = line.clone(rt.alloc()).expect(&rt, "a node was not copied");
     drop(line);
-    compare(&rt, rt.alloc(), &copy, "HardLine");
+    check(&rt, is_shown(rt.alloc(), &copy, "HardLine"), "HardLine");
 }
 
 #[test]
@@ -86,5 +87,5 @@ fn counted_nodes_are_cloned(rt: HostRuntime) {
     let line = RcDoc::new(rt.alloc(), Doc::HardLine).expect(&rt, "a node was not placed");
     let copy = line.clone().expect(&rt, "a node was not copied");
     drop(line);
-    compare(&rt, rt.alloc(), &copy, "HardLine");
+    check(&rt, is_shown(rt.alloc(), &copy, "HardLine"), "HardLine");
 }

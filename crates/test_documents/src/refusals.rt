@@ -42,7 +42,7 @@ fn compare_layout<'a, T: DocPtr<'a>>(
     expected: &str,
 ) -> Result<(), Fail> {
     let layout = layout(memory, document)?;
-    check(rt, layout.as_str() == expected, "the layout", expected);
+    check(rt, layout.as_str() == expected, expected);
     Ok(())
 }
 
@@ -53,7 +53,7 @@ fn compare_length<'a, T: DocPtr<'a>>(
     length: usize,
 ) -> Result<(), Fail> {
     let layout = layout(memory, document)?;
-    check(rt, layout.len() == length, "the length", "a long text");
+    check(rt, layout.len() == length, "the length of a long text");
     Ok(())
 }
 
@@ -77,10 +77,10 @@ fn refused<'a, D: CountedPlace<'a>>(
 ) -> Result<D::Doc, Fail> {
     bump.set_allocation_limit(Some(bump.allocated_bytes()));
     let refuses = refuses_a_text(place)?;
-    check(rt, refuses, "the answer", "a refused text");
-    check(rt, place.nodes() == 1, "the nodes", "a refused text");
+    check(rt, refuses, "the answer of a refused text");
+    check(rt, place.nodes() == 1, "the nodes of a refused text");
     let after = twice(place, before)?;
-    check(rt, place.nodes() == 2, "the nodes", "small texts");
+    check(rt, place.nodes() == 2, "the nodes of small texts");
     Ok(after)
 }
 
@@ -92,7 +92,7 @@ fn placed_again<'a, D: CountedPlace<'a>>(
 ) -> Result<(), Fail> {
     bump.set_allocation_limit(None);
     let placed = place.alloc(text_of(place.memory())?)?;
-    check(rt, place.nodes() == 3, "the nodes", "a placed text");
+    check(rt, place.nodes() == 3, "the nodes of a placed text");
     compare_length(rt, place.memory(), &placed, LETTERS + 1)
 }
 

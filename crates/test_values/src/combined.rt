@@ -1,20 +1,23 @@
 //! Each combinator once, made into a document; of sequences also a clone.
-use crate::expected::{rows, shows};
+use crate::expected::check;
 use prettyless::prelude::*;
 use prettyless::text::CowStr;
 use prettyless::{ColumnTest, NestingTest};
 use std::process::Abort;
+use test_expectations::{rows, shows};
 
-// Compares what the documents of a clone and of its value are shown as.
+// Whether the documents of a clone and of its value are shown as this text.
 fn both_show<'a, D: DocPlace<'a>, T: Pretty<'a, D> + Clone>(
-    rt: &impl Abort,
     place: &'a D,
     value: T,
     text: &str,
-) {
-    let copy = value.clone().expect(rt, "a value was not cloned");
-    shows(rt, place, copy.pretty(place), text);
-    shows(rt, place, value.pretty(place), text);
+) -> bool {
+    match value.clone() {
+        Ok(copy) => {
+            shows(place, copy.pretty(place), text) && shows(place, value.pretty(place), text)
+        }
+        Err(_) => false,
+    }
 }
 
 pub(crate) fn tokens<'a, D: DocPlace<'a>>(rt: &impl Abort, place: &'a D) {

@@ -1,10 +1,11 @@
 //! What can become a document.
-use crate::expected::{failing, refuses, rows, shows};
+use crate::expected::check;
 use prettyless::docs;
 use prettyless::prelude::*;
 use prettyless::text::{BuildError, CowStr};
 use std::cell::Cell;
 use std::process::Abort;
+use test_expectations::{failing, refuses, rows, shows};
 
 pub(crate) fn texts<'a, D: DocPlace<'a>>(rt: &impl Abort, place: &'a D) {
     let owned = String::from_str(place.memory(), "owned").expect(rt, "memory was refused");
@@ -16,7 +17,11 @@ pub(crate) fn texts<'a, D: DocPlace<'a>>(rt: &impl Abort, place: &'a D) {
 }
 
 pub(crate) fn lent<'a, D: DocPlace<'a>>(rt: &impl Abort, place: &'a D, owned: &'a String) {
-    shows(rt, place, owned.pretty(place), "\"owned\"");
+    check(
+        rt,
+        shows(place, owned.pretty(place), "\"owned\""),
+        "a lent text",
+    );
 }
 
 pub(crate) fn several<'a, D: DocPlace<'a>, P: Pretty<'a, D> + Copy>(
@@ -41,7 +46,8 @@ pub(crate) fn arrays<'a, D: DocPlace<'a>, P: Pretty<'a, D> + Copy>(
     place: &'a D,
     pair: [P; 2],
 ) {
-    shows(rt, place, pair.pretty(place), "[\"a\", \"b\"]");
+    let is_shown = shows(place, pair.pretty(place), "[\"a\", \"b\"]");
+    check(rt, is_shown, "an array");
 }
 
 // The value, and a note that it was asked for.
@@ -67,13 +73,8 @@ pub(crate) fn macros<'a, D: DocPlace<'a>, P: Pretty<'a, D> + Copy>(
     (a, b): (P, P),
 ) {
     let asked = Cell::new(false);
-    refuses(rt, around(place, a, as_string(failing()), &asked));
-    assert!(rt; !asked.get());
-    shows(
-        rt,
-        place,
-        around(place, a, b, &asked),
-        "[\"a\", \"b\", \"a\"]",
-    );
-    assert!(rt; asked.get());
+    let refused = around(place, a, as_string(failing()), &asked);
+    check(rt, refuses(refused) && !asked.get(), "a refused operand");
+    let is_shown = shows(place, around(place, a, b, &asked), "[\"a\", \"b\", \"a\"]");
+    check(rt, is_shown && asked.get(), "operands in order");
 }

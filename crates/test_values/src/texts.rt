@@ -1,5 +1,5 @@
 //! Texts, payloads, what values print, and the sentences of errors.
-use crate::expected::{Pieces, compare, failing, refuses, rows};
+use crate::expected::check;
 use arrayvec::ArrayString;
 use prettyless::text::{BuildError, CowStr, MultilineTextData, SmallText, Text};
 use prettyless::{BoxDoc, Doc, PrettyError, RenderError};
@@ -7,31 +7,30 @@ use prettyless_text::measure::measure;
 use std::alloc::{AllocError, Global};
 use std::fmt;
 use std::process::Abort;
+use test_expectations::{PrintedPieces, failing, is_shown, refuses, rows};
 
 // As many bytes as a node has room for, and one more.
 const ROOM: &str = "1234567890123456789012";
 
 const MORE: &str = "12345678901234567890123";
 
-fn printing(pieces: &'static [&'static str], fails: bool) -> Pieces {
-    Pieces { pieces, fails }
+fn printing(pieces: &'static [&'static str], fails: bool) -> PrintedPieces {
+    PrintedPieces { pieces, fails }
 }
 
-// Compares a text that owns its bytes, and one that has them in place.
-fn is_owned(rt: &impl Abort, memory: Global, value: Pieces, letters: &str) {
-    let text = Text::from_display(memory, value).expect(rt, "a text was not made");
-    assert!(rt;
-        matches!(text, Text::Owned(_)) && text.as_str() == letters,
-        "{letters}"
-    );
+// Whether a value prints a text that owns its bytes, or one that has them in place.
+fn is_owned(memory: Global, value: PrintedPieces, letters: &str) -> bool {
+    match Text::from_display(memory, value) {
+        Ok(text) => matches!(text, Text::Owned(_)) && text.as_str() == letters,
+        Err(_) => false,
+    }
 }
 
-fn is_small(rt: &impl Abort, memory: Global, value: Pieces, letters: &str) {
-    let text = Text::from_display(memory, value).expect(rt, "a text was not made");
-    assert!(rt;
-        matches!(text, Text::Small(_)) && text.as_str() == letters,
-        "{letters}"
-    );
+fn is_small(memory: Global, value: PrintedPieces, letters: &str) -> bool {
+    match Text::from_display(memory, value) {
+        Ok(text) => matches!(text, Text::Small(_)) && text.as_str() == letters,
+        Err(_) => false,
+    }
 }
 
 #[test]
@@ -44,9 +43,10 @@ fn values_print_texts(rt: HostRuntime) {
         printing(&["12345678901234567890", "123"], false) => MORE;
         printing(&[MORE, "c"], false) => "12345678901234567890123c";
     }
-    refuses(&rt, Text::from_display(rt.alloc(), failing()));
-    let late = printing(&[MORE], true);
-    refuses(&rt, Text::from_display(rt.alloc(), late));
+    let early = Text::from_display(rt.alloc(), failing());
+    check(&rt, refuses(early), "a value that prints nothing");
+    let late = Text::from_display(rt.alloc(), printing(&[MORE], true));
+    check(&rt, refuses(late), "a value that fails at its end");
 }
 
 // Eleven columns, in as many bytes as a node has room for.
@@ -61,23 +61,28 @@ fn owned(rt: &impl Abort, memory: Global, text: &str) -> CowStr<'static> {
     CowStr::Owned(String::from_str(memory, text).expect(rt, "memory was refused"))
 }
 
-// Compares a copy of a text, and one of a payload.
-fn is_copied(rt: &impl Abort, memory: Global, text: CowStr<'_>, shown: &str) {
-    let text = Text::from_cow(memory, text).expect(rt, "a text was not made");
-    let copy = text.clone(memory).expect(rt, "a text was not copied");
-    compare(rt, memory, &copy, shown);
+// A copy of a text, and one of a payload.
+fn copy_of<'a>(memory: Global, text: CowStr<'a>) -> Result<Text<'a>, BuildError> {
+    Text::from_cow(memory, text)?.clone(memory)
 }
 
-fn is_payload(
-    rt: &impl Abort,
-    memory: Global,
-    payload: Result<MultilineTextData<'_>, BuildError>,
-    shown: &str,
-) {
-    let payload = payload.expect(rt, "a payload was not made");
-    let copy = payload.clone(memory).expect(rt, "a payload was not copied");
-    compare(rt, memory, &copy, shown);
-    assert!(rt; copy.metrics().rest_width == 5);
+fn payload_of<'a>(memory: Global, text: CowStr<'a>) -> Result<MultilineTextData<'a>, BuildError> {
+    MultilineTextData::new(memory, text)?.clone(memory)
+}
+
+// Whether such a copy is shown as this text. The widest of the later lines of a payload has five columns.
+fn is_copied(memory: Global, text: CowStr<'_>, shown: &str) -> bool {
+    match copy_of(memory, text) {
+        Ok(copy) => is_shown(memory, &copy, shown),
+        Err(_) => false,
+    }
+}
+
+fn is_payload(memory: Global, text: CowStr<'_>, shown: &str) -> bool {
+    match payload_of(memory, text) {
+        Ok(copy) => is_shown(memory, &copy, shown) && copy.metrics().rest_width == 5,
+        Err(_) => false,
+    }
 }
 
 #[test]
@@ -88,8 +93,8 @@ fn texts_are_copied(rt: HostRuntime) {
     }
     let source = String::from_str(rt.alloc(), "one\n  two").expect(&rt, "memory was refused");
     rows! { is_payload, &rt, rt.alloc();
-        MultilineTextData::new(rt.alloc(), CowStr::Owned(source)) => "\"one\\n  two\"";
-        MultilineTextData::new(rt.alloc(), CowStr::Borrowed("one\r\n  two")) => "\"one\\r\\n  two\"";
+        CowStr::Owned(source) => "\"one\\n  two\"";
+        CowStr::Borrowed("one\r\n  two") => "\"one\\r\\n  two\"";
     }
 }
 
@@ -112,16 +117,19 @@ fn payloads_are_measured(rt: HostRuntime) {
 #[test]
 fn small_texts_have_22_bytes(rt: HostRuntime) {
     assert!(rt; SmallText::new(MORE).is_none());
-    compare(&rt, rt.alloc(), &SmallText::new("a\tb"), "Some(\"a\\tb\")");
+    let is_small = is_shown(rt.alloc(), &SmallText::new("a\tb"), "Some(\"a\\tb\")");
+    check(&rt, is_small, "a small text");
     let small = SmallText::new(ROOM).expect(&rt, "the text has no room");
     let text: ArrayString<22> = small.into();
     assert!(rt; SmallText::from(text).as_str() == ROOM);
 }
 
-// Compares what an error says.
-fn says<E: fmt::Display + Drop>(rt: &impl Abort, memory: Global, error: E, sentence: &str) {
-    let said = format!(in memory; "{error}").expect(rt, "memory was refused");
-    assert!(rt; said.as_str() == sentence, "{sentence}");
+// Whether this is what an error says.
+fn says<E: fmt::Display + Drop>(memory: Global, error: E, sentence: &str) -> bool {
+    match format!(in memory; "{error}") {
+        Ok(said) => said.as_str() == sentence,
+        Err(_) => false,
+    }
 }
 
 #[test]
