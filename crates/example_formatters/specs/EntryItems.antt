@@ -2,10 +2,10 @@
 use Rattle.std.specs.Prelude.{◌≡◌, ℕ, codes, List, [], ◌∷◌, ◌++◌, map, Option, Some, None, String, string_bytes}
 use Rattle.prettyless_shapes.specs.Shown.{text_items, with_gaps}
 use Rattle.prettyless_shapes.specs.Shows.{Item, Shown, spaced, apart, ended, AreShown}
-use Rattle.example_formatters.specs.declared.entry.Setting.{Setting}
-use Rattle.example_formatters.specs.declared.entry.Entry.{Entry}
-use Rattle.example_formatters.specs.declared.entry.Entry.TheOpen.{Entry-F}
-use Rattle.example_formatters.specs.declared.entry.Entry.TheFolds.{fold-Entry}
+use Rattle.example_formatters.specs.declared.entry.ConfigurationSetting.{ConfigurationSetting}
+use Rattle.example_formatters.specs.declared.entry.ConfigurationEntry.{ConfigurationEntry}
+use Rattle.example_formatters.specs.declared.entry.ConfigurationEntry.TheOpen.{ConfigurationEntry-F}
+use Rattle.example_formatters.specs.declared.entry.ConfigurationEntry.TheFolds.{fold-ConfigurationEntry}
 
 -- a name, and a sign on its line
 abbrev pub headed : List ℕ → List ℕ → List Item
@@ -21,7 +21,7 @@ commented_items items None = items
 commented_items items (Some comment) = items ++ (spaced ∷ text_items (string_bytes comment))
 
 -- a setting, whose value may be on the next line
-abbrev pub setting_items : Setting → List Item
+abbrev pub setting_items : ConfigurationSetting → List Item
 setting_items s = commented_items (headed (string_bytes s.name) (codes "=") ++ (apart ∷ ended_value (string_bytes s.value))) s.comment
 
 -- entries in braces, each of them on lines of its own
@@ -30,16 +30,16 @@ block_items name lists =
     headed name (codes "{") ++ (ended ∷ (with_gaps (ended ∷ []) lists ++ (ended ∷ Shown (codes "}") ∷ [])))
 
 -- one level, with the items of each entry in its place
-abbrev pub entry_level : Entry-F (List Item) → List Item
-entry_level (Entry-F.Setting s) = setting_items s
-entry_level (Entry-F.Block name lists) = block_items (string_bytes name) lists.items
+abbrev pub entry_level : ConfigurationEntry-F (List Item) → List Item
+entry_level (ConfigurationEntry-F.Setting s) = setting_items s
+entry_level (ConfigurationEntry-F.Block name lists) = block_items (string_bytes name) lists.items
 
 -- an entry
-abbrev pub entry_items : Entry → List Item
-entry_items = fold-Entry (List Item) entry_level
+abbrev pub entry_items : ConfigurationEntry → List Item
+entry_items = fold-ConfigurationEntry (List Item) entry_level
 
 -- entries, each of which ends its line
-abbrev pub entries_items : List Entry → List Item
+abbrev pub entries_items : List ConfigurationEntry → List Item
 entries_items entries = with_gaps (ended ∷ []) (map entry_items entries) ++ ended ∷ []
 
 -- what was appended shows these items

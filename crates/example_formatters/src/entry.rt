@@ -3,7 +3,7 @@
 /// A name, its value, and the comment after it, if there is one. A comment begins with its sign, as in `# why`, and goes up to
 /// the end of its line.
 #[derive(Debug, Drop, PartialEq)]
-pub struct Setting {
+pub struct ConfigurationSetting {
     pub name: String,
     pub value: String,
     pub comment: Option<String>,
@@ -11,7 +11,7 @@ pub struct Setting {
 
 /// A setting, or a name with entries of its own.
 #[derive(Debug, Drop, PartialEq)]
-pub enum Entry {
-    Setting(Setting),
-    Block(String, Vec<Entry>),
+pub enum ConfigurationEntry {
+    Setting(ConfigurationSetting),
+    Block(String, Vec<ConfigurationEntry>),
 }

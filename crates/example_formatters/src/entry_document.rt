@@ -5,14 +5,17 @@ ghost use Rattle.prettyless_shapes.specs.Shows.{Item, shows};
 ghost use Rattle.prettyless.specs.Trees.{box_tree};
 ghost use Rattle.example_formatters.specs.EntryItems.{block_items, entries_items, entry_items, setting_items};
 
-use crate::entry::{Entry, Setting};
+use crate::entry::{ConfigurationEntry, ConfigurationSetting};
 use prettyless::prelude::*;
 use prettyless::text::BuildError;
 use prettyless::{BoxAllocator, BoxDoc};
 use prettyless_shapes::{block, ended, hanging, joined, spaced, stacked_all, text};
 
 /// A setting: its value is on the line of its name where it fits there, and else on the next line.
-fn setting<'a, D: DocPlace<'a>>(place: &'a D, setting: &'a Setting) -> Result<D::Doc, BuildError>
+fn setting<'a, D: DocPlace<'a>>(
+    place: &'a D,
+    setting: &'a ConfigurationSetting,
+) -> Result<D::Doc, BuildError>
     ensures { IfOk result (λ p. shows (D.Doc.tree p) (setting_items setting.now)) }
 {
     let name = spaced(
@@ -47,12 +50,15 @@ fn braces<'a, D: DocPlace<'a>>(
 }
 
 /// The document of an entry.
-fn document<'a>(boxes: &'a BoxAllocator, entry: &'a Entry) -> Result<BoxDoc<'a>, BuildError>
+fn document<'a>(
+    boxes: &'a BoxAllocator,
+    entry: &'a ConfigurationEntry,
+) -> Result<BoxDoc<'a>, BuildError>
     ensures { IfOk result (λ p. shows (box_tree p) (entry_items entry.now)) }
 {
     match entry {
-        Entry::Setting(of) => setting(boxes, of),
-        Entry::Block(name, entries) => {
+        ConfigurationEntry::Setting(of) => setting(boxes, of),
+        ConfigurationEntry::Block(name, entries) => {
             let mut docs = Vec::new(boxes.memory());
             for entry in entries {
                 docs.push(document(boxes, entry)?)?;
@@ -66,7 +72,7 @@ fn document<'a>(boxes: &'a BoxAllocator, entry: &'a Entry) -> Result<BoxDoc<'a>,
 /// clause says which error comes.
 pub fn documents<'a>(
     boxes: &'a BoxAllocator,
-    entries: &'a [Entry],
+    entries: &'a [ConfigurationEntry],
 ) -> Result<BoxDoc<'a>, BuildError>
     ensures { IfOk result (λ p. shows (box_tree p) (entries_items entries.now)) }
 {

@@ -3,7 +3,7 @@ ghost use Rattle.std.specs.Prelude.{IfOk};
 ghost use Rattle.std.specs.String.{string_bytes};
 ghost use Rattle.example_formatters.specs.EntryItems.{Appends, entries_items};
 
-use crate::entry::Entry;
+use crate::entry::ConfigurationEntry;
 use crate::entry_document::documents;
 use prettyless::{BoxAllocator, DocPlace, DocPtr, PrettyError};
 use std::alloc::Global;
@@ -13,7 +13,7 @@ use std::fmt;
 fn write_in<'a>(
     boxes: &'a BoxAllocator,
     width: usize,
-    entries: &'a [Entry],
+    entries: &'a [ConfigurationEntry],
     out: &mut String,
 ) -> Result<(), PrettyError<fmt::Error>>
     ensures { IfOk result (λ _. Appends (entries_items entries.now) (string_bytes out.old) (string_bytes out.new)) }
@@ -28,7 +28,7 @@ fn write_in<'a>(
 pub fn write_entries(
     alloc: Global,
     width: usize,
-    entries: &[Entry],
+    entries: &[ConfigurationEntry],
     out: &mut String,
 ) -> Result<(), PrettyError<fmt::Error>>
     ensures { IfOk result (λ _. Appends (entries_items entries.now) (string_bytes out.old) (string_bytes out.new)) }

@@ -1,12 +1,12 @@
 //! What is said of a line.
 use crate::compared::compared;
-use crate::refusal::Refusal;
+use crate::refusal::LineRefusal;
 use crate::words::{before_arrow, words};
 use std::alloc::{AllocError, Global};
 
 /// What is said of a line.
 #[derive(Drop)]
-pub enum Answer {
+pub enum LineAnswer {
     /// It is empty, or a comment.
     Nothing,
     /// What comes of its case, or why it is none.
@@ -22,18 +22,20 @@ fn refused(
     alloc: Global,
     number: u64,
     states: bool,
-    refusal: Refusal,
-) -> Result<Answer, AllocError> {
+    refusal: LineRefusal,
+) -> Result<LineAnswer, AllocError> {
     match refusal {
-        Refusal::OutOfMemory => Err(AllocError),
-        Refusal::Differs(what) => Ok(Answer::Differs(format!(in alloc; "line {number}: {what}")?)),
-        Refusal::NotACase(expected) => {
+        LineRefusal::OutOfMemory => Err(AllocError),
+        LineRefusal::Differs(what) => Ok(LineAnswer::Differs(format!(in alloc;
+            "line {number}: {what}"
+        )?)),
+        LineRefusal::NotACase(expected) => {
             let expected = expected.description();
             let text = format!(in alloc; "error line {number}: expected {expected}")?;
             Ok(if states {
-                Answer::Differs(text)
+                LineAnswer::Differs(text)
             } else {
-                Answer::Outcome(text)
+                LineAnswer::Outcome(text)
             })
         }
     }
@@ -45,9 +47,9 @@ pub fn answered(
     hostile: bool,
     number: u64,
     line: &[u8],
-) -> Result<Answer, AllocError> {
+) -> Result<LineAnswer, AllocError> {
     if matches!(line, [] | [b'#', ..]) {
-        return Ok(Answer::Nothing);
+        return Ok(LineAnswer::Nothing);
     }
     let words = match words(alloc, line) {
         Ok(words) => words,
@@ -55,8 +57,8 @@ pub fn answered(
     };
     let stated = words.get(before_arrow(&words).len().saturating_add(1)..);
     match compared(alloc, line, stated.unwrap_or_default(), hostile) {
-        Ok(Some(layout)) if stated.is_none() => Ok(Answer::Outcome(layout.words()?)),
-        Ok(_) => Ok(Answer::AsStated),
+        Ok(Some(layout)) if stated.is_none() => Ok(LineAnswer::Outcome(layout.words()?)),
+        Ok(_) => Ok(LineAnswer::AsStated),
         Err(refusal) => refused(alloc, number, stated.is_some(), refusal),
     }
 }

@@ -1,7 +1,7 @@
 //! Cases. Their documents are read from the last of their words to the first, so that nothing calls itself.
-use crate::expected::Expected;
+use crate::case_part::CasePart;
 use crate::node::{node, take_document};
-use crate::refusal::Refusal;
+use crate::refusal::LineRefusal;
 use crate::words::{next_word, number, repeated};
 use prettyless_doc::DocPlace;
 use prettyless_model::options::{IndentationPolicy, LineEnding, RenderOptions};
@@ -13,19 +13,19 @@ pub struct Case<T> {
     pub document: T,
 }
 
-fn line_ending(word: &str) -> Result<LineEnding, Refusal> {
+fn line_ending(word: &str) -> Result<LineEnding, LineRefusal> {
     match word {
         "lf" => Ok(LineEnding::Lf),
         "crlf" => Ok(LineEnding::Crlf),
-        _ => Err(Refusal::NotACase(Expected::LineEnding)),
+        _ => Err(LineRefusal::NotACase(CasePart::LineEnding)),
     }
 }
 
-fn indentation_policy(word: &str) -> Result<IndentationPolicy, Refusal> {
+fn indentation_policy(word: &str) -> Result<IndentationPolicy, LineRefusal> {
     match word {
         "eager" => Ok(IndentationPolicy::Eager),
         "deferred" => Ok(IndentationPolicy::Deferred),
-        _ => Err(Refusal::NotACase(Expected::IndentationPolicy)),
+        _ => Err(LineRefusal::NotACase(CasePart::IndentationPolicy)),
     }
 }
 
@@ -35,11 +35,11 @@ fn make<'a, D: DocPlace<'a>>(
     place: &'a D,
     words: &[&'a str],
     made: &mut Vec<D::Doc>,
-) -> Result<Option<usize>, Refusal> {
+) -> Result<Option<usize>, LineRefusal> {
     let mut after = words.iter();
-    let name = next_word(&mut after, Expected::Document)?;
+    let name = next_word(&mut after, CasePart::Document)?;
     if name == "again" {
-        let document = place.clone_ptr(made.last().ok_or(Expected::Document)?)?;
+        let document = place.clone_ptr(made.last().ok_or(CasePart::Document)?)?;
         made.push(document)?;
         return Ok(Some(after.len()));
     }
@@ -51,29 +51,29 @@ fn make<'a, D: DocPlace<'a>>(
 }
 
 // The document that the words write, all of them.
-fn document<'a, D: DocPlace<'a>>(place: &'a D, words: &[&'a str]) -> Result<D::Doc, Refusal> {
+fn document<'a, D: DocPlace<'a>>(place: &'a D, words: &[&'a str]) -> Result<D::Doc, LineRefusal> {
     let mut made = Vec::new(place.memory());
     let mut read = 0;
     for at in (0..words.len()).rev() {
         if let Some(after) = make(place, &words[at..], &mut made)? {
             if after != read {
-                return Err(Refusal::NotACase(if read == 0 {
-                    Expected::End
+                return Err(LineRefusal::NotACase(if read == 0 {
+                    CasePart::End
                 } else {
-                    Expected::Document
+                    CasePart::Document
                 }));
             }
             read = words.len() - at;
         }
     }
     if read != words.len() {
-        return Err(Refusal::NotACase(Expected::Document));
+        return Err(LineRefusal::NotACase(CasePart::Document));
     }
     let document = take_document(&mut made)?;
     if made.is_empty() {
         Ok(document)
     } else {
-        Err(Refusal::NotACase(Expected::End))
+        Err(LineRefusal::NotACase(CasePart::End))
     }
 }
 
@@ -81,12 +81,12 @@ fn document<'a, D: DocPlace<'a>>(place: &'a D, words: &[&'a str]) -> Result<D::D
 pub fn read_case<'a, D: DocPlace<'a>>(
     place: &'a D,
     words: &[&'a str],
-) -> Result<Case<D::Doc>, Refusal> {
+) -> Result<Case<D::Doc>, LineRefusal> {
     let [width, ending, policy, words @ ..] = words else {
-        return Err(Refusal::NotACase(Expected::Case));
+        return Err(LineRefusal::NotACase(CasePart::Case));
     };
     let options = RenderOptions {
-        width: number(width, Expected::Width)?,
+        width: number(width, CasePart::Width)?,
         line_ending: line_ending(ending)?,
         indentation_policy: indentation_policy(policy)?,
     };

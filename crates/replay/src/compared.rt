@@ -2,7 +2,7 @@
 use crate::case::read_case;
 use crate::hostile::compare_hostile;
 use crate::layout::{Over, WrittenLayout, laid_out};
-use crate::refusal::Refusal;
+use crate::refusal::LineRefusal;
 use crate::stated::{CaseOutcome, compare, compare_error, compare_stated};
 use crate::words::{before_arrow, repeated, words};
 use bumpalo::Bump;
@@ -28,7 +28,7 @@ fn compare_layouts(
     what: &str,
     one: &WrittenLayout,
     other: &WrittenLayout,
-) -> Result<(), Refusal> {
+) -> Result<(), LineRefusal> {
     let (one, other) = (one.words()?, other.words()?);
     compare(alloc, what, one.as_str(), other.as_str())
 }
@@ -39,7 +39,7 @@ fn compared_in<'a, D: DocPlace<'a>>(
     line: &'a [u8],
     stated: &[&str],
     hostile: bool,
-) -> Result<WrittenLayout, Refusal>
+) -> Result<WrittenLayout, LineRefusal>
 where
     D::Doc: fmt::Debug,
 {
@@ -68,7 +68,7 @@ fn compared_in_places(
     line: &[u8],
     stated: &[&str],
     hostile: bool,
-) -> Result<WrittenLayout, Refusal> {
+) -> Result<WrittenLayout, LineRefusal> {
     let bump = Bump::new(alloc);
     let arena = Arena::new(alloc, &bump);
     let layout = compared_in(&arena, line, stated, hostile)?;
@@ -89,11 +89,11 @@ pub fn compared(
     line: &[u8],
     stated: &[&str],
     hostile: bool,
-) -> Result<Option<WrittenLayout>, Refusal> {
+) -> Result<Option<WrittenLayout>, LineRefusal> {
     let stated = repeated(alloc, stated)?;
     match compared_in_places(alloc, line, &stated, hostile) {
         Ok(layout) => Ok(Some(layout)),
-        Err(Refusal::NotACase(expected)) => {
+        Err(LineRefusal::NotACase(expected)) => {
             compare_error(alloc, &stated, expected)?;
             Ok(None)
         }

@@ -7,7 +7,7 @@ mod writer;
 
 use crate::case::Case;
 use crate::layout::WrittenLayout;
-use crate::refusal::Refusal;
+use crate::refusal::LineRefusal;
 use call::{CALL_KINDS, Call, CallKind, Ending, Laying};
 use prettyless_doc::DocPtr;
 use prettyless_model::options::{IndentationPolicy, LineEnding, RenderOptions};
@@ -61,7 +61,7 @@ fn is_right(fails: bool, writer: &Writer<'_>, ending: Ending) -> Result<bool, Al
 
 impl<'a, T: DocPtr<'a>> Laying<'_, 'a, T> {
     // Renders into a writer of which the call of this number goes wrong: how many calls it came to.
-    fn try_once(&self, trial: Trial, number: usize) -> Result<usize, Refusal> {
+    fn try_once(&self, trial: Trial, number: usize) -> Result<usize, LineRefusal> {
         let bytes = self.layout.text.as_bytes();
         let mut writer = Writer::new(bytes, trial.most, trial.wrong, number);
         let ending = self.render(trial.call, &mut writer);
@@ -69,14 +69,14 @@ impl<'a, T: DocPtr<'a>> Laying<'_, 'a, T> {
             return Ok(writer.calls);
         }
         let (calls, left) = (writer.calls, writer.rest.len());
-        Err(Refusal::Differs(format!(in self.alloc;
+        Err(LineRefusal::Differs(format!(in self.alloc;
             "{trial:?} at call {number}: after {calls} calls {left} bytes are left"
         )?))
     }
 
     // Refuses the case where a render ends otherwise than it has to. Each call of the writer goes wrong in turn, up to one that the
     // render does not come to.
-    fn try_each(&self, trial: Trial) -> Result<(), Refusal> {
+    fn try_each(&self, trial: Trial) -> Result<(), LineRefusal> {
         for number in 1..=self.layout.text.len() {
             if self.try_once(trial, number)? < number {
                 return Ok(());
@@ -92,7 +92,7 @@ pub fn compare_hostile<'a, T: DocPtr<'a>>(
     alloc: Global,
     case: &Case<T>,
     layout: &WrittenLayout,
-) -> Result<(), Refusal> {
+) -> Result<(), LineRefusal> {
     let laying = Laying {
         alloc,
         document: case.document.doc(),

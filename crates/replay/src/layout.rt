@@ -2,7 +2,7 @@
 ghost use Rattle.std.specs.Prelude.{⊤, None};
 
 use crate::case::Case;
-use crate::refusal::Refusal;
+use crate::refusal::LineRefusal;
 use crate::text::{labelled, push_word, word_of};
 use prettyless_doc::DocPtr;
 use prettyless_sink::error::RenderError;
@@ -67,7 +67,7 @@ pub fn laid_out<'a, T: DocPtr<'a>>(
     alloc: Global,
     over: Over,
     case: &Case<T>,
-) -> Result<WrittenLayout, Refusal> {
+) -> Result<WrittenLayout, LineRefusal> {
     let mut layout = WrittenLayout {
         alloc,
         fails: false,
@@ -87,10 +87,10 @@ pub fn laid_out<'a, T: DocPtr<'a>>(
     layout.visits = cost.visits;
     match ending {
         // A table was refused memory, which the call over a table does not say.
-        _ if cost.refused > 0 => return Err(Refusal::OutOfMemory),
+        _ if cost.refused > 0 => return Err(LineRefusal::OutOfMemory),
         Ok(()) => {}
         Err(RenderError::Document(_)) => layout.fails = true,
-        Err(_) => return Err(Refusal::OutOfMemory),
+        Err(_) => return Err(LineRefusal::OutOfMemory),
     }
     Ok(layout)
 }

@@ -4,8 +4,8 @@
 
 mod answer;
 mod case;
+mod case_part;
 mod compared;
-mod expected;
 mod hostile;
 mod layout;
 mod node;

@@ -1,6 +1,6 @@
 //! Nodes: what the word names that a node begins with, and the words and documents that come after it.
-use crate::expected::Expected;
-use crate::refusal::Refusal;
+use crate::case_part::CasePart;
+use crate::refusal::LineRefusal;
 use crate::text::text;
 use crate::words::{next_word, take_number};
 use prettyless_doc::measure::holds_break;
@@ -11,42 +11,42 @@ use prettyless_model::kind::{Indenting, Pair, Single};
 use std::alloc::Global;
 use std::slice::Iter;
 
-fn take_text<'a>(alloc: Global, words: &mut Iter<'_, &'a str>) -> Result<Text<'a>, Refusal> {
-    let text = text(alloc, next_word(words, Expected::Text)?)?;
+fn take_text<'a>(alloc: Global, words: &mut Iter<'_, &'a str>) -> Result<Text<'a>, LineRefusal> {
+    let text = text(alloc, next_word(words, CasePart::Text)?)?;
     Ok(Text::from_cow(alloc, text)?)
 }
 
 fn take_payload<'a, T: DocPtr<'a>>(
     alloc: Global,
     words: &mut Iter<'_, &'a str>,
-) -> Result<Doc<'a, T>, Refusal> {
-    let text = text(alloc, next_word(words, Expected::Payload)?)?;
+) -> Result<Doc<'a, T>, LineRefusal> {
+    let text = text(alloc, next_word(words, CasePart::Payload)?)?;
     if !holds_break(text.as_str()) {
-        return Err(Refusal::NotACase(Expected::Payload));
+        return Err(LineRefusal::NotACase(CasePart::Payload));
     }
     Ok(Doc::multiline_text(alloc, text)?)
 }
 
-fn take_column_test(words: &mut Iter<'_, &str>) -> Result<ColumnTest, Refusal> {
-    match next_word(words, Expected::ColumnTest)? {
+fn take_column_test(words: &mut Iter<'_, &str>) -> Result<ColumnTest, LineRefusal> {
+    match next_word(words, CasePart::ColumnTest)? {
         "nesting" => Ok(ColumnTest::IsNesting),
-        "atmost" => Ok(ColumnTest::AtMost(take_number(words, Expected::Columns)?)),
-        "atleast" => Ok(ColumnTest::AtLeast(take_number(words, Expected::Columns)?)),
-        _ => Err(Refusal::NotACase(Expected::ColumnTest)),
+        "atmost" => Ok(ColumnTest::AtMost(take_number(words, CasePart::Columns)?)),
+        "atleast" => Ok(ColumnTest::AtLeast(take_number(words, CasePart::Columns)?)),
+        _ => Err(LineRefusal::NotACase(CasePart::ColumnTest)),
     }
 }
 
-fn take_nesting_test(words: &mut Iter<'_, &str>) -> Result<NestingTest, Refusal> {
-    match next_word(words, Expected::NestingTest)? {
-        "atmost" => Ok(NestingTest::AtMost(take_number(words, Expected::Columns)?)),
-        "atleast" => Ok(NestingTest::AtLeast(take_number(words, Expected::Columns)?)),
-        _ => Err(Refusal::NotACase(Expected::NestingTest)),
+fn take_nesting_test(words: &mut Iter<'_, &str>) -> Result<NestingTest, LineRefusal> {
+    match next_word(words, CasePart::NestingTest)? {
+        "atmost" => Ok(NestingTest::AtMost(take_number(words, CasePart::Columns)?)),
+        "atleast" => Ok(NestingTest::AtLeast(take_number(words, CasePart::Columns)?)),
+        _ => Err(LineRefusal::NotACase(CasePart::NestingTest)),
     }
 }
 
 /// Takes the document that was made last.
-pub fn take_document<T: Drop>(made: &mut Vec<T>) -> Result<T, Refusal> {
-    Ok(made.pop().ok_or(Expected::Document)?)
+pub fn take_document<T: Drop>(made: &mut Vec<T>) -> Result<T, LineRefusal> {
+    Ok(made.pop().ok_or(CasePart::Document)?)
 }
 
 // The node with nothing in it, or a text, of this name, with those of the words after it that it takes, if it is the name of one.
@@ -54,13 +54,13 @@ fn leaf<'a, T: DocPtr<'a>>(
     alloc: Global,
     name: &str,
     words: &mut Iter<'_, &'a str>,
-) -> Result<Option<Doc<'a, T>>, Refusal> {
+) -> Result<Option<Doc<'a, T>>, LineRefusal> {
     Ok(Some(match name {
         "nil" => Doc::Nil,
         "fail" => Doc::Fail,
         "t" => Doc::Text(take_text(alloc, words)?),
         "w" => Doc::TextWithLen(
-            take_number(words, Expected::Columns)?,
+            take_number(words, CasePart::Columns)?,
             take_text(alloc, words)?,
         ),
         "m" => take_payload(alloc, words)?,
@@ -73,10 +73,10 @@ fn leaf<'a, T: DocPtr<'a>>(
 }
 
 // How the node of this name holds one document.
-fn single(name: &str, words: &mut Iter<'_, &str>) -> Result<Option<Single>, Refusal> {
+fn single(name: &str, words: &mut Iter<'_, &str>) -> Result<Option<Single>, LineRefusal> {
     Ok(Some(match name {
         "sfx" => Single::LineSuffix,
-        "nest" => Single::Indented(Indenting::Nest(take_number(words, Expected::Offset)?)),
+        "nest" => Single::Indented(Indenting::Nest(take_number(words, CasePart::Offset)?)),
         "root" => Single::Indented(Indenting::DedentToRoot),
         "align" => Single::Indented(Indenting::Align),
         "flat" => Single::Flatten,
@@ -86,7 +86,7 @@ fn single(name: &str, words: &mut Iter<'_, &str>) -> Result<Option<Single>, Refu
 }
 
 // How the node of this name holds two documents.
-fn pair(name: &str, words: &mut Iter<'_, &str>) -> Result<Option<Pair>, Refusal> {
+fn pair(name: &str, words: &mut Iter<'_, &str>) -> Result<Option<Pair>, LineRefusal> {
     Ok(Some(match name {
         "app" => Pair::Append,
         "bof" => Pair::BreakOrFlat,
@@ -104,7 +104,7 @@ pub fn node<'a, T: DocPtr<'a>>(
     name: &str,
     words: &mut Iter<'_, &'a str>,
     made: &mut Vec<T>,
-) -> Result<Option<Doc<'a, T>>, Refusal> {
+) -> Result<Option<Doc<'a, T>>, LineRefusal> {
     if let Some(kind) = single(name, words)? {
         return Ok(Some(Doc::around(kind, take_document(made)?)));
     }

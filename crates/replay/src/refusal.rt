@@ -1,49 +1,49 @@
-use crate::expected::Expected;
+use crate::case_part::CasePart;
 use hex::FromHexError;
 use prettyless_doc::text::BuildError;
 use std::alloc::{AllocError, AllocFailed};
 
 /// Why a line has no outcome.
 #[derive(Drop)]
-pub enum Refusal {
+pub enum LineRefusal {
     /// It writes no case: what was expected.
-    NotACase(Expected),
+    NotACase(CasePart),
     /// Memory was refused.
     OutOfMemory,
     /// Its case comes out otherwise than it states, or than it has to: how it does.
     Differs(String),
 }
 
-impl From<Expected> for Refusal {
-    fn from(expected: Expected) -> Refusal {
-        Refusal::NotACase(expected)
+impl From<CasePart> for LineRefusal {
+    fn from(expected: CasePart) -> LineRefusal {
+        LineRefusal::NotACase(expected)
     }
 }
 
-impl From<AllocError> for Refusal {
-    fn from(_error: AllocError) -> Refusal {
-        Refusal::OutOfMemory
+impl From<AllocError> for LineRefusal {
+    fn from(_error: AllocError) -> LineRefusal {
+        LineRefusal::OutOfMemory
     }
 }
 
-impl<T: Drop> From<AllocFailed<T>> for Refusal {
-    fn from(_error: AllocFailed<T>) -> Refusal {
-        Refusal::OutOfMemory
+impl<T: Drop> From<AllocFailed<T>> for LineRefusal {
+    fn from(_error: AllocFailed<T>) -> LineRefusal {
+        LineRefusal::OutOfMemory
     }
 }
 
-impl From<BuildError> for Refusal {
+impl From<BuildError> for LineRefusal {
     // A node is refused only where memory is refused.
-    fn from(_error: BuildError) -> Refusal {
-        Refusal::OutOfMemory
+    fn from(_error: BuildError) -> LineRefusal {
+        LineRefusal::OutOfMemory
     }
 }
 
-impl From<FromHexError> for Refusal {
-    fn from(error: FromHexError) -> Refusal {
+impl From<FromHexError> for LineRefusal {
+    fn from(error: FromHexError) -> LineRefusal {
         match error {
-            FromHexError::OutOfMemory => Refusal::OutOfMemory,
-            _ => Refusal::NotACase(Expected::Text),
+            FromHexError::OutOfMemory => LineRefusal::OutOfMemory,
+            _ => LineRefusal::NotACase(CasePart::Text),
         }
     }
 }

@@ -1,4 +1,4 @@
-use crate::answer::{Answer, answered};
+use crate::answer::{LineAnswer, answered};
 use std::alloc::Global;
 use std::io;
 use std::io::{BufRead, ErrorKind, Write};
@@ -30,15 +30,15 @@ fn write_line<W: Write>(out: &mut W, text: &str) -> io::Result<()> {
 
 impl Tally {
     // Counts a line, and writes what is said of it.
-    fn add<W: Write>(&mut self, answer: &Answer, out: &mut W) -> io::Result<()> {
+    fn add<W: Write>(&mut self, answer: &LineAnswer, out: &mut W) -> io::Result<()> {
         match answer {
-            Answer::Nothing => Ok(()),
-            Answer::Outcome(text) => write_line(out, text.as_str()),
-            Answer::AsStated => {
+            LineAnswer::Nothing => Ok(()),
+            LineAnswer::Outcome(text) => write_line(out, text.as_str()),
+            LineAnswer::AsStated => {
                 self.same = self.same.saturating_add(1);
                 Ok(())
             }
-            Answer::Differs(text) => {
+            LineAnswer::Differs(text) => {
                 self.different = self.different.saturating_add(1);
                 write_line(out, text.as_str())
             }

@@ -1,8 +1,8 @@
 //! What a line states of its case, compared with what comes of it. Both are said in the same words.
 use crate::case::Case;
-use crate::expected::Expected;
+use crate::case_part::CasePart;
 use crate::layout::WrittenLayout;
-use crate::refusal::Refusal;
+use crate::refusal::LineRefusal;
 use crate::text::{labelled, push_word, text, word_of};
 use crate::words::number;
 use prettyless_doc::DocPtr;
@@ -11,15 +11,15 @@ use std::alloc::{AllocError, Global};
 use std::fmt;
 
 /// Refuses what is found where that is not what is stated.
-pub fn compare(alloc: Global, what: &str, stated: &str, found: &str) -> Result<(), Refusal> {
+pub fn compare(alloc: Global, what: &str, stated: &str, found: &str) -> Result<(), LineRefusal> {
     if stated == found {
         return Ok(());
     }
-    Err(Refusal::Differs(format!(in alloc; "{what}stated {stated}, found {found}")?))
+    Err(LineRefusal::Differs(format!(in alloc; "{what}stated {stated}, found {found}")?))
 }
 
 // The texts of these words, put together.
-fn joined(alloc: Global, words: &[&str]) -> Result<String, Refusal> {
+fn joined(alloc: Global, words: &[&str]) -> Result<String, LineRefusal> {
     let mut all = String::new(alloc);
     for word in words {
         all.push_str(text(alloc, word)?.as_str())?;
@@ -28,7 +28,7 @@ fn joined(alloc: Global, words: &[&str]) -> Result<String, Refusal> {
 }
 
 // The texts of these words as words in hexadecimal.
-fn in_hexadecimal(alloc: Global, words: &[&str]) -> Result<String, Refusal> {
+fn in_hexadecimal(alloc: Global, words: &[&str]) -> Result<String, LineRefusal> {
     let mut all = String::new(alloc);
     for word in words {
         push_word(alloc, &mut all, text(alloc, word)?.as_str())?;
@@ -41,24 +41,24 @@ fn visit_words(alloc: Global, label: &str, visits: Visits) -> Result<String, All
     format!(in alloc; "{label} {printer} {probes}")
 }
 
-fn visits(words: &[&str]) -> Result<Visits, Refusal> {
+fn visits(words: &[&str]) -> Result<Visits, LineRefusal> {
     let [printer, probes] = words else {
-        return Err(Refusal::NotACase(Expected::Visits));
+        return Err(LineRefusal::NotACase(CasePart::Visits));
     };
     Ok(Visits {
-        printer: number(printer, Expected::Visits)?,
-        probes: number(probes, Expected::Visits)?,
+        printer: number(printer, CasePart::Visits)?,
+        probes: number(probes, CasePart::Visits)?,
     })
 }
 
 // An outcome in words.
-fn outcome_words(alloc: Global, label: &str, words: &[&str]) -> Result<String, Refusal> {
+fn outcome_words(alloc: Global, label: &str, words: &[&str]) -> Result<String, LineRefusal> {
     let text = joined(alloc, words)?;
     Ok(labelled(alloc, label, word_of(alloc, text.as_bytes())?.as_str())?)
 }
 
 // What is stated by a statement of this kind.
-fn stated_words(alloc: Global, kind: &str, words: &[&str]) -> Result<String, Refusal> {
+fn stated_words(alloc: Global, kind: &str, words: &[&str]) -> Result<String, LineRefusal> {
     match kind {
         "ok" => outcome_words(alloc, "ok", words),
         "fail" => outcome_words(alloc, "fail", words),
@@ -68,7 +68,7 @@ fn stated_words(alloc: Global, kind: &str, words: &[&str]) -> Result<String, Ref
         "few" => Ok(String::from_str(alloc, "few")?),
         "pieces" => Ok(labelled(alloc, "pieces", in_hexadecimal(alloc, words)?.as_str())?),
         "debug" => Ok(labelled(alloc, "debug", joined(alloc, words)?.as_str())?),
-        _ => Err(Refusal::NotACase(Expected::Statement)),
+        _ => Err(LineRefusal::NotACase(CasePart::Statement)),
     }
 }
 
@@ -114,7 +114,7 @@ pub fn compare_stated<'a, T: DocPtr<'a> + fmt::Debug>(
     alloc: Global,
     stated: &[&str],
     found: &CaseOutcome<'_, T>,
-) -> Result<(), Refusal> {
+) -> Result<(), LineRefusal> {
     for at in 0..stated.len() {
         if at == 0 || KINDS.contains(&stated[at]) {
             let (kind, words) = (stated[at], own_words(&stated[at + 1..]));
@@ -126,9 +126,13 @@ pub fn compare_stated<'a, T: DocPtr<'a> + fmt::Debug>(
 }
 
 /// Refuses a line that is no case, since this was expected, where that is not what it states first.
-pub fn compare_error(alloc: Global, stated: &[&str], expected: Expected) -> Result<(), Refusal> {
+pub fn compare_error(
+    alloc: Global,
+    stated: &[&str],
+    expected: CasePart,
+) -> Result<(), LineRefusal> {
     let Some((kind, words)) = stated.split_first() else {
-        return Err(Refusal::NotACase(expected));
+        return Err(LineRefusal::NotACase(expected));
     };
     let stated = stated_words(alloc, kind, own_words(words))?;
     let found = labelled(alloc, "error: expected", expected.description())?;

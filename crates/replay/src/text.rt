@@ -1,6 +1,6 @@
 //! Texts as words: in hexadecimal with two digits for each byte, and `-` for no byte, or in quotes.
-use crate::expected::Expected;
-use crate::refusal::Refusal;
+use crate::case_part::CasePart;
+use crate::refusal::LineRefusal;
 use prettyless_doc::text::CowStr;
 use std::alloc::{AllocError, Global};
 
@@ -27,17 +27,17 @@ pub fn labelled(alloc: Global, label: &str, words: &str) -> Result<String, Alloc
 }
 
 // The text of a word in hexadecimal.
-fn hexadecimal(alloc: Global, word: &str) -> Result<String, Refusal> {
+fn hexadecimal(alloc: Global, word: &str) -> Result<String, LineRefusal> {
     let bytes = hex::decode(alloc, if word == "-" { "" } else { word })?;
     // Upper case letters, or no digit at all, write no text.
     if word_of(alloc, &bytes)?.as_str() != word {
-        return Err(Refusal::NotACase(Expected::Text));
+        return Err(LineRefusal::NotACase(CasePart::Text));
     }
-    String::from_utf8(bytes).map_err(|_| Refusal::NotACase(Expected::Text))
+    String::from_utf8(bytes).map_err(|_| LineRefusal::NotACase(CasePart::Text))
 }
 
 // The text between quotes, with what its backslashes stand for.
-fn unescaped(alloc: Global, quoted: &str) -> Result<String, Refusal> {
+fn unescaped(alloc: Global, quoted: &str) -> Result<String, LineRefusal> {
     let mut text = String::new(alloc);
     let mut is_escaped = false;
     for letter in quoted.chars() {
@@ -46,13 +46,13 @@ fn unescaped(alloc: Global, quoted: &str) -> Result<String, Refusal> {
             (true, 'n') => text.push('\n')?,
             (true, 'r') => text.push('\r')?,
             (true, '"' | '\\') => text.push(letter)?,
-            (true, _) | (false, '"') => return Err(Refusal::NotACase(Expected::Text)),
+            (true, _) | (false, '"') => return Err(LineRefusal::NotACase(CasePart::Text)),
             (false, _) => text.push(letter)?,
         }
         is_escaped = !is_escaped && letter == '\\';
     }
     if is_escaped {
-        return Err(Refusal::NotACase(Expected::Text));
+        return Err(LineRefusal::NotACase(CasePart::Text));
     }
     Ok(text)
 }
@@ -63,7 +63,7 @@ fn quoted(word: &str) -> Option<&str> {
 }
 
 /// The text that a word writes. One in quotes with no backslash is that part of the line.
-pub fn text<'a>(alloc: Global, word: &'a str) -> Result<CowStr<'a>, Refusal> {
+pub fn text<'a>(alloc: Global, word: &'a str) -> Result<CowStr<'a>, LineRefusal> {
     match quoted(word) {
         None => Ok(CowStr::Owned(hexadecimal(alloc, word)?)),
         Some(text) if text.contains(['"', '\\']) => Ok(CowStr::Owned(unescaped(alloc, text)?)),

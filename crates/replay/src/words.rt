@@ -1,6 +1,6 @@
 //! The words of a line, and those that `repeat` stands before.
-use crate::expected::Expected;
-use crate::refusal::Refusal;
+use crate::case_part::CasePart;
+use crate::refusal::LineRefusal;
 use std::alloc::Global;
 use std::slice::Iter;
 use std::str::{FromStr, from_utf8};
@@ -26,7 +26,7 @@ impl Stand {
 }
 
 /// The words of a line, with a space between each two. A space in quotes is part of its word.
-pub fn words(alloc: Global, line: &[u8]) -> Result<Vec<&str>, Refusal> {
+pub fn words(alloc: Global, line: &[u8]) -> Result<Vec<&str>, LineRefusal> {
     let mut stand = Stand::Outside;
     let parts = line.split(|byte| {
         let ends = *byte == b' ' && stand == Stand::Outside;
@@ -37,7 +37,7 @@ pub fn words(alloc: Global, line: &[u8]) -> Result<Vec<&str>, Refusal> {
     for part in parts {
         match from_utf8(part) {
             Ok(word) => words.push(word)?,
-            Err(_) => return Err(Refusal::NotACase(Expected::Utf8)),
+            Err(_) => return Err(LineRefusal::NotACase(CasePart::Utf8)),
         }
     }
     Ok(words)
@@ -52,31 +52,31 @@ pub fn before_arrow<'w, 'a>(words: &'w [&'a str]) -> &'w [&'a str] {
 /// Takes the next word, which is expected to be this.
 pub fn next_word<'a>(
     words: &mut Iter<'_, &'a str>,
-    expected: Expected,
-) -> Result<&'a str, Refusal> {
+    expected: CasePart,
+) -> Result<&'a str, LineRefusal> {
     match words.next() {
         Some(word) => Ok(*word),
-        None => Err(Refusal::NotACase(expected)),
+        None => Err(LineRefusal::NotACase(expected)),
     }
 }
 
 /// The number that decimal digits write, after a minus where it may be negative, if it has room. A plus is no digit, and neither is a
 /// space.
-pub fn number<T: FromStr + Drop>(word: &str, expected: Expected) -> Result<T, Refusal>
+pub fn number<T: FromStr + Drop>(word: &str, expected: CasePart) -> Result<T, LineRefusal>
 where
     T::Err: Drop,
 {
     match word.parse() {
         Ok(number) if !word.starts_with('+') => Ok(number),
-        _ => Err(Refusal::NotACase(expected)),
+        _ => Err(LineRefusal::NotACase(expected)),
     }
 }
 
 /// Takes the next word, which is expected to be this number.
 pub fn take_number<T: FromStr + Drop>(
     words: &mut Iter<'_, &str>,
-    expected: Expected,
-) -> Result<T, Refusal>
+    expected: CasePart,
+) -> Result<T, LineRefusal>
 where
     T::Err: Drop,
 {
@@ -86,20 +86,20 @@ where
 // The most times that words are repeated.
 const MOST_TIMES: usize = 1_000_000;
 
-fn times(word: &str) -> Result<usize, Refusal> {
-    let times = number(word, Expected::Times)?;
+fn times(word: &str) -> Result<usize, LineRefusal> {
+    let times = number(word, CasePart::Times)?;
     if times <= MOST_TIMES {
         Ok(times)
     } else {
-        Err(Refusal::NotACase(Expected::Times))
+        Err(LineRefusal::NotACase(CasePart::Times))
     }
 }
 
 // The words up to `]`.
-fn enclosed<'w, 'a>(words: &'w [&'a str]) -> Result<&'w [&'a str], Refusal> {
+fn enclosed<'w, 'a>(words: &'w [&'a str]) -> Result<&'w [&'a str], LineRefusal> {
     match words.iter().position(|word| *word == "]") {
         Some(end) => Ok(&words[..end]),
-        None => Err(Refusal::NotACase(Expected::RepeatEnd)),
+        None => Err(LineRefusal::NotACase(CasePart::RepeatEnd)),
     }
 }
 
@@ -108,7 +108,7 @@ fn push_times<'a>(
     all: &mut Vec<&'a str>,
     count: &str,
     words: &[&'a str],
-) -> Result<usize, Refusal> {
+) -> Result<usize, LineRefusal> {
     let words = enclosed(words)?;
     for _ in 0..times(count)? {
         all.extend_from_slice(words)?;
@@ -117,7 +117,7 @@ fn push_times<'a>(
 }
 
 /// The words, with those between `repeat N [` and `]` as often as it says.
-pub fn repeated<'a>(alloc: Global, words: &[&'a str]) -> Result<Vec<&'a str>, Refusal> {
+pub fn repeated<'a>(alloc: Global, words: &[&'a str]) -> Result<Vec<&'a str>, LineRefusal> {
     let mut all = Vec::new(alloc);
     // How many words are done besides those before.
     let mut done: usize = 0;

@@ -5,16 +5,16 @@ use std::process::Abort;
 
 /// What a call answers: the number of its status, how many bytes are written, what the area holds, and a line and a column.
 #[derive(Clone, Copy)]
-pub struct Answer<'a> {
+pub struct CallOutcome<'a> {
     pub status: u32,
     pub written: usize,
     pub held: &'a [u8],
     pub place: (usize, usize),
 }
 
-impl<'a> Answer<'a> {
+impl<'a> CallOutcome<'a> {
     pub fn new(status: u32, written: usize, held: &'a [u8], place: (usize, usize)) -> Self {
-        Answer {
+        CallOutcome {
             status,
             written,
             held,
@@ -29,7 +29,12 @@ fn check(rt: &impl Abort, holds: bool, what: &str, input: &[u8]) {
 }
 
 /// Ends the test where the answer to an input is not the one that is wanted.
-pub fn compare_answers(rt: &impl Abort, input: &[u8], answer: Answer<'_>, wanted: Answer<'_>) {
+pub fn compare_outcomes(
+    rt: &impl Abort,
+    input: &[u8],
+    answer: CallOutcome<'_>,
+    wanted: CallOutcome<'_>,
+) {
     check(rt, answer.status == wanted.status, "the status", input);
     check(rt, answer.written == wanted.written, "the count", input);
     check(rt, answer.held == wanted.held, "the area", input);

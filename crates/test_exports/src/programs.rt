@@ -1,5 +1,5 @@
 //! Layouts of programs into areas of bytes: each instruction, each option, and each status.
-use crate::areas::{Answer, compare_answers};
+use crate::areas::{CallOutcome, compare_outcomes};
 use prettyless::{BoxAllocator, DocPtr};
 use prettyless_exports::programs::program_layout;
 use prettyless_program::decode;
@@ -7,7 +7,7 @@ use std::alloc::Global;
 use std::process::Abort;
 
 #[derive(Clone, Copy)]
-struct Options {
+struct ProgramOptions {
     width: usize,
     crlf: bool,
     deferred: bool,
@@ -15,20 +15,20 @@ struct Options {
 }
 
 #[rattlefmt::skip]
-const PLAIN: Options = Options { width: 80, crlf: false, deferred: false, limit: 0 };
+const PLAIN: ProgramOptions = ProgramOptions { width: 80, crlf: false, deferred: false, limit: 0 };
 
 #[rattlefmt::skip]
-const CRLF: Options = Options { crlf: true, ..PLAIN };
+const CRLF: ProgramOptions = ProgramOptions { crlf: true, ..PLAIN };
 
 #[rattlefmt::skip]
-const DEFERRED: Options = Options { deferred: true, ..PLAIN };
+const DEFERRED: ProgramOptions = ProgramOptions { deferred: true, ..PLAIN };
 
 const TEXT: &[u8] = b"\x10\x07\0\0\0abcdefg";
 
 const NEST: &[u8] = b"\x40\x03\x03\x10\x01\0\0\0a\x41\x25\x01\0\0\0\0\0\0\0";
 
 // Options, a program, the number of the status, how many bytes are written, and what the area holds.
-type Row<'a> = (Options, &'a [u8], u32, usize, &'a str);
+type Row<'a> = (ProgramOptions, &'a [u8], u32, usize, &'a str);
 
 #[rattlefmt::skip]
 const ROWS: &[Row<'static>] = &[
@@ -41,9 +41,9 @@ const ROWS: &[Row<'static>] = &[
     (PLAIN, NEST, 0, 5, "\n \n a"),
     (DEFERRED, NEST, 0, 4, "\n\n a."),
     // Limits.
-    (Options { limit: 7, ..PLAIN }, TEXT, 1, 7, "abcde"),
-    (Options { limit: 6, ..PLAIN }, TEXT, 4, 5, "abcde"),
-    (Options { limit: 3, ..PLAIN }, TEXT, 4, 3, "abc.."),
+    (ProgramOptions { limit: 7, ..PLAIN }, TEXT, 1, 7, "abcde"),
+    (ProgramOptions { limit: 6, ..PLAIN }, TEXT, 4, 5, "abcde"),
+    (ProgramOptions { limit: 3, ..PLAIN }, TEXT, 4, 3, "abc.."),
     // Layouts that fail.
     (PLAIN, b"\x10\x02\0\0\0ab\x01\x10\x01\0\0\0b", 3, 2, "ab..."),
     (PLAIN, b"\x10\x07\0\0\0abcdefg\x01", 3, 5, "abcde"),
@@ -135,7 +135,7 @@ const INSTRUCTIONS: &[(usize, &[u8], &str)] = &[
 
 // The area is as long as what it holds in the end.
 fn compare(rt: &impl Abort, memory: Global, (options, program, status, written, held): Row<'_>) {
-    let Options {
+    let ProgramOptions {
         width,
         crlf,
         deferred,
@@ -147,9 +147,9 @@ fn compare(rt: &impl Abort, memory: Global, (options, program, status, written, 
     let found = program_layout(
         memory, program, width, crlf, deferred, limit, area, &mut count,
     );
-    let answer = Answer::new(found, count, area, (0, 0));
-    let wanted = Answer::new(status, written, held.as_bytes(), (0, 0));
-    compare_answers(rt, program, answer, wanted);
+    let answer = CallOutcome::new(found, count, area, (0, 0));
+    let wanted = CallOutcome::new(status, written, held.as_bytes(), (0, 0));
+    compare_outcomes(rt, program, answer, wanted);
 }
 
 #[test]
@@ -162,7 +162,7 @@ fn statuses_say_what_the_area_holds(rt: HostRuntime) {
 #[test]
 fn instructions_have_layouts(rt: HostRuntime) {
     for &(width, program, layout) in INSTRUCTIONS {
-        let options = Options { width, ..PLAIN };
+        let options = ProgramOptions { width, ..PLAIN };
         compare(&rt, rt.alloc(), (options, program, 0, layout.len(), layout));
     }
 }

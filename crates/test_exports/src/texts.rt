@@ -1,5 +1,5 @@
 //! Layouts of JSON and TOML texts into an area of fifteen bytes.
-use crate::areas::{Answer, compare_answers};
+use crate::areas::{CallOutcome, compare_outcomes};
 use prettyless_exports::json_texts::json_layout;
 use prettyless_exports::toml_texts::toml_layout;
 use std::alloc::{AllocError, Global};
@@ -14,7 +14,7 @@ enum Language {
 
 // Only JSON is filled, and keeps blank lines.
 #[derive(Clone, Copy)]
-struct Options {
+struct FormatterOptions {
     width: usize,
     indent: u32,
     fill: bool,
@@ -23,13 +23,20 @@ struct Options {
 }
 
 #[rattlefmt::skip]
-const PLAIN: Options = Options { width: 80, indent: 2, fill: false, keep_blank_lines: false, limit: 0 };
+const PLAIN: FormatterOptions = FormatterOptions { width: 80, indent: 2, fill: false, keep_blank_lines: false, limit: 0 };
 
 #[rattlefmt::skip]
-const NARROW: Options = Options { width: 7, indent: 1, ..PLAIN };
+const NARROW: FormatterOptions = FormatterOptions { width: 7, indent: 1, ..PLAIN };
 
 // Options, a text, the number of the status, how many bytes are written, what the area holds, and a line and a column.
-type Row<'a> = (Options, &'a [u8], u32, usize, &'a str, (usize, usize));
+type Row<'a> = (
+    FormatterOptions,
+    &'a [u8],
+    u32,
+    usize,
+    &'a str,
+    (usize, usize),
+);
 
 // The limit is for layouts alone.
 #[rattlefmt::skip]
@@ -40,13 +47,13 @@ const JSON: &[Row<'static>] = &[
     (PLAIN, b"[1,2,3,4,5]", 1, 16, "[1, 2, 3, 4, 5]", (0, 0)),
     // Each option.
     (NARROW, b"[1,2,3]", 0, 15, "[\n 1,\n 2,\n 3\n]\n", (0, 0)),
-    (Options { indent: 2, ..NARROW }, b"[1,2,3]", 1, 18, "[\n  1,\n  2,\n  3", (0, 0)),
-    (Options { fill: true, ..NARROW }, b"[1,2,3]", 0, 14, "[\n 1, 2,\n 3\n]\n.", (0, 0)),
-    (Options { width: 5, keep_blank_lines: true, ..NARROW }, b"[1,\n\n\n2]", 0, 12, "[\n 1,\n\n 2\n]\n...", (0, 0)),
-    (Options { limit: 10, ..PLAIN }, b"[1,2,3]", 0, 10, "[1, 2, 3]\n.....", (0, 0)),
-    (Options { limit: 3, ..PLAIN }, b"[1,2,3]", 4, 3, "[1,............", (0, 0)),
+    (FormatterOptions { indent: 2, ..NARROW }, b"[1,2,3]", 1, 18, "[\n  1,\n  2,\n  3", (0, 0)),
+    (FormatterOptions { fill: true, ..NARROW }, b"[1,2,3]", 0, 14, "[\n 1, 2,\n 3\n]\n.", (0, 0)),
+    (FormatterOptions { width: 5, keep_blank_lines: true, ..NARROW }, b"[1,\n\n\n2]", 0, 12, "[\n 1,\n\n 2\n]\n...", (0, 0)),
+    (FormatterOptions { limit: 10, ..PLAIN }, b"[1,2,3]", 0, 10, "[1, 2, 3]\n.....", (0, 0)),
+    (FormatterOptions { limit: 3, ..PLAIN }, b"[1,2,3]", 4, 3, "[1,............", (0, 0)),
     // What was expected, at a line and a column of characters. A name may be longer than the area.
-    (Options { limit: 1, ..PLAIN }, b"", 5, 7, "a value........", (1, 1)),
+    (FormatterOptions { limit: 1, ..PLAIN }, b"", 5, 7, "a value........", (1, 1)),
     (PLAIN, b"[\n1 2]", 5, 10, "`,` or `]`.....", (2, 3)),
     (PLAIN, b"{\"\xC3\xA9\",1}", 5, 3, "`:`............", (1, 5)),
     (PLAIN, b"[\"\xFF\"]", 5, 5, "UTF-8..........", (1, 3)),
@@ -62,12 +69,12 @@ const TOML: &[Row<'static>] = &[
     (PLAIN, b"abc=[1,2,3]", 1, 16, "abc = [1, 2, 3]", (0, 0)),
     (PLAIN, b"a=1\r\n#b", 0, 11, "a = 1\r\n#b\r\n....", (0, 0)),
     // Each option.
-    (Options { width: 6, ..NARROW }, b"a=[1]", 0, 12, "a = [\n 1,\n]\n...", (0, 0)),
-    (Options { width: 6, indent: 2, ..NARROW }, b"a=[1]", 0, 13, "a = [\n  1,\n]\n..", (0, 0)),
-    (Options { limit: 8, ..PLAIN }, b"a=[1]", 0, 8, "a = [1]\n.......", (0, 0)),
-    (Options { limit: 3, ..PLAIN }, b"a=[1]", 4, 3, "a =............", (0, 0)),
+    (FormatterOptions { width: 6, ..NARROW }, b"a=[1]", 0, 12, "a = [\n 1,\n]\n...", (0, 0)),
+    (FormatterOptions { width: 6, indent: 2, ..NARROW }, b"a=[1]", 0, 13, "a = [\n  1,\n]\n..", (0, 0)),
+    (FormatterOptions { limit: 8, ..PLAIN }, b"a=[1]", 0, 8, "a = [1]\n.......", (0, 0)),
+    (FormatterOptions { limit: 3, ..PLAIN }, b"a=[1]", 4, 3, "a =............", (0, 0)),
     // What was expected, at a line and a column of characters. A name may be longer than the area.
-    (Options { limit: 1, ..PLAIN }, b"a", 6, 10, "`.` or `=`.....", (1, 2)),
+    (FormatterOptions { limit: 1, ..PLAIN }, b"a", 6, 10, "`.` or `=`.....", (1, 2)),
     (PLAIN, b"a = 1\n\"\xC3\xA9\" = [1 2]", 6, 10, "`,` or `]`.....", (2, 10)),
     (PLAIN, b"a = 1\n# \xFF", 6, 5, "UTF-8..........", (2, 3)),
     (PLAIN, b"a = 1 2", 6, 15, "the end of the ", (1, 7)),
@@ -79,7 +86,7 @@ fn compare(
     language: Language,
     (options, text, status, written, held, place): Row<'_>,
 ) {
-    let Options {
+    let FormatterOptions {
         width,
         indent,
         fill,
@@ -114,9 +121,9 @@ fn compare(
             &mut column,
         ),
     };
-    let answer = Answer::new(found, count, &out, (line, column));
-    let wanted = Answer::new(status, written, held.as_bytes(), place);
-    compare_answers(rt, text, answer, wanted);
+    let answer = CallOutcome::new(found, count, &out, (line, column));
+    let wanted = CallOutcome::new(status, written, held.as_bytes(), place);
+    compare_outcomes(rt, text, answer, wanted);
 }
 
 #[test]
@@ -159,7 +166,7 @@ fn deep_layouts_are_counted_as_far_as_the_limit(rt: HostRuntime) -> Result<(), F
     let begun = "[\n  [\n    [\n   ";
     for &(count, limit, status, written) in DEEP {
         let text = arrays(rt.alloc(), "", count)?;
-        let options = Options { limit, ..PLAIN };
+        let options = FormatterOptions { limit, ..PLAIN };
         let row = (options, text.as_bytes(), status, written, begun, (0, 0));
         compare(&rt, rt.alloc(), Language::Json, row);
     }

@@ -1,17 +1,22 @@
 //! Layouts of entries, worked by hand, and read back.
-use example_formatters::entry::{Entry, Setting};
+use example_formatters::entry::{ConfigurationEntry, ConfigurationSetting};
 use example_formatters::entry_write::write_entries;
 use std::alloc::{AllocError, Global};
 use std::mem;
 use std::test::Fail;
 
-fn setting(alloc: Global, name: &str, value: &str, comment: &str) -> Result<Entry, AllocError> {
+fn setting(
+    alloc: Global,
+    name: &str,
+    value: &str,
+    comment: &str,
+) -> Result<ConfigurationEntry, AllocError> {
     let comment = if comment.is_empty() {
         None
     } else {
         Some(String::from_str(alloc, comment)?)
     };
-    Ok(Entry::Setting(Setting {
+    Ok(ConfigurationEntry::Setting(ConfigurationSetting {
         name: String::from_str(alloc, name)?,
         value: String::from_str(alloc, value)?,
         comment,
@@ -20,13 +25,13 @@ fn setting(alloc: Global, name: &str, value: &str, comment: &str) -> Result<Entr
 
 /// What was read so far: entries, the blocks that are open around them, and the last name.
 #[derive(Drop)]
-struct Reading {
-    open: Vec<(String, Vec<Entry>)>,
-    entries: Vec<Entry>,
+struct ReadEntries {
+    open: Vec<(String, Vec<ConfigurationEntry>)>,
+    entries: Vec<ConfigurationEntry>,
     name: String,
 }
 
-fn read_word(alloc: Global, at: &mut Reading, word: &str) -> Result<(), AllocError> {
+fn read_word(alloc: Global, at: &mut ReadEntries, word: &str) -> Result<(), AllocError> {
     if word == "{" {
         let name = mem::replace(&mut at.name, String::new(alloc));
         let around = mem::replace(&mut at.entries, Vec::new(alloc));
@@ -34,7 +39,7 @@ fn read_word(alloc: Global, at: &mut Reading, word: &str) -> Result<(), AllocErr
     } else if word == "}" {
         if let Some((name, around)) = at.open.pop() {
             let entries = mem::replace(&mut at.entries, around);
-            at.entries.push(Entry::Block(name, entries))?;
+            at.entries.push(ConfigurationEntry::Block(name, entries))?;
         }
     } else if let Some(value) = word.strip_suffix(";") {
         let entry = setting(alloc, at.name.as_str(), value, "")?;
@@ -45,9 +50,9 @@ fn read_word(alloc: Global, at: &mut Reading, word: &str) -> Result<(), AllocErr
     Ok(())
 }
 
-fn read_comment(alloc: Global, at: &mut Reading, comment: &str) -> Result<(), AllocError> {
+fn read_comment(alloc: Global, at: &mut ReadEntries, comment: &str) -> Result<(), AllocError> {
     let comment = format!(in alloc; "# {comment}")?;
-    if let Some(Entry::Setting(last)) = at.entries.pop() {
+    if let Some(ConfigurationEntry::Setting(last)) = at.entries.pop() {
         let (name, value) = (last.name.as_str(), last.value.as_str());
         let entry = setting(alloc, name, value, comment.as_str())?;
         at.entries.push(entry)?;
@@ -56,8 +61,8 @@ fn read_comment(alloc: Global, at: &mut Reading, comment: &str) -> Result<(), Al
 }
 
 /// The entries that a layout is read as. A comment goes up to the end of its line.
-fn read(alloc: Global, layout: &str) -> Result<Vec<Entry>, AllocError> {
-    let mut at = Reading {
+fn read(alloc: Global, layout: &str) -> Result<Vec<ConfigurationEntry>, AllocError> {
+    let mut at = ReadEntries {
         open: Vec::new(alloc),
         entries: Vec::new(alloc),
         name: String::new(alloc),
@@ -75,13 +80,13 @@ fn read(alloc: Global, layout: &str) -> Result<Vec<Entry>, AllocError> {
 }
 
 /// A setting, and a block of two more.
-fn entries(alloc: Global) -> Result<Vec<Entry>, AllocError> {
+fn entries(alloc: Global) -> Result<Vec<ConfigurationEntry>, AllocError> {
     let mut inner = Vec::new(alloc);
     inner.push(setting(alloc, "port", "80", "# plain")?)?;
     inner.push(setting(alloc, "host", "example.org", "")?)?;
     let mut entries = Vec::new(alloc);
     entries.push(setting(alloc, "user", "www", "# not root")?)?;
-    entries.push(Entry::Block(String::from_str(alloc, "server")?, inner))?;
+    entries.push(ConfigurationEntry::Block(String::from_str(alloc, "server")?, inner))?;
     Ok(entries)
 }
 

@@ -23,7 +23,7 @@ impl fmt::Display for Stubborn {
 
 /// Which document it is.
 #[derive(Clone, Copy, Drop)]
-pub enum Kind {
+pub enum DocumentKind {
     Repeated,
     Interspersed,
     Reflowed,
@@ -40,28 +40,28 @@ pub enum Kind {
 }
 
 /// The documents that are built in each place.
-pub const ALL: &[Kind] = &[
-    Kind::Repeated,
-    Kind::Interspersed,
-    Kind::Reflowed,
-    Kind::OfMacro,
-    Kind::Owned,
-    Kind::Printed,
-    Kind::TooWide,
-    Kind::Comments,
-    Kind::EndingLine,
-    Kind::RejectedAfter,
-    Kind::BothKept,
+pub const ALL: &[DocumentKind] = &[
+    DocumentKind::Repeated,
+    DocumentKind::Interspersed,
+    DocumentKind::Reflowed,
+    DocumentKind::OfMacro,
+    DocumentKind::Owned,
+    DocumentKind::Printed,
+    DocumentKind::TooWide,
+    DocumentKind::Comments,
+    DocumentKind::EndingLine,
+    DocumentKind::RejectedAfter,
+    DocumentKind::BothKept,
 ];
 
 /// The documents that are copied.
-pub const COPIED: &[Kind] = &[Kind::Interspersed, Kind::Owned];
+pub const COPIED: &[DocumentKind] = &[DocumentKind::Interspersed, DocumentKind::Owned];
 
 /// The document that stays while others are built.
-pub const KEPT: Kind = Kind::Suffixes;
+pub const KEPT: DocumentKind = DocumentKind::Suffixes;
 
 /// The document whose visits are counted.
-pub const COUNTED: Kind = Kind::Grouped;
+pub const COUNTED: DocumentKind = DocumentKind::Grouped;
 
 fn repeated<'a, D: DocPlace<'a>>(place: &'a D) -> Result<D::Doc, BuildError> {
     place.pretty(("a", hard_line()))?.repeat(5)?.into_doc()
@@ -104,32 +104,32 @@ fn grouped<'a, D: DocPlace<'a>>(place: &'a D) -> Result<D::Doc, BuildError> {
     joined(front, text(place, "b"))?.group()?.into_doc()
 }
 
-impl Kind {
+impl DocumentKind {
     pub fn name(self) -> &'static str {
         match self {
-            Kind::Repeated => "copies",
-            Kind::Interspersed => "separators",
-            Kind::Reflowed => "words",
-            Kind::OfMacro => "operands of a macro",
-            Kind::Owned => "an owned text",
-            Kind::Printed => "what a value prints",
-            Kind::Suffixes => "a suffix in a suffix",
-            Kind::TooWide => "a branch that is too wide",
-            Kind::Comments => "branches with suffixes",
-            Kind::EndingLine => "a branch that ends its line",
-            Kind::RejectedAfter => "a branch in one that is too wide",
-            Kind::BothKept => "a branch in one that fits",
-            Kind::Grouped => "a pair in a group",
+            DocumentKind::Repeated => "copies",
+            DocumentKind::Interspersed => "separators",
+            DocumentKind::Reflowed => "words",
+            DocumentKind::OfMacro => "operands of a macro",
+            DocumentKind::Owned => "an owned text",
+            DocumentKind::Printed => "what a value prints",
+            DocumentKind::Suffixes => "a suffix in a suffix",
+            DocumentKind::TooWide => "a branch that is too wide",
+            DocumentKind::Comments => "branches with suffixes",
+            DocumentKind::EndingLine => "a branch that ends its line",
+            DocumentKind::RejectedAfter => "a branch in one that is too wide",
+            DocumentKind::BothKept => "a branch in one that fits",
+            DocumentKind::Grouped => "a pair in a group",
         }
     }
 
     /// The width that it is laid out at.
     pub fn width(self) -> usize {
         match self {
-            Kind::EndingLine => 1,
-            Kind::Reflowed => 2,
-            Kind::Interspersed | Kind::Comments => 5,
-            Kind::TooWide | Kind::RejectedAfter => 10,
+            DocumentKind::EndingLine => 1,
+            DocumentKind::Reflowed => 2,
+            DocumentKind::Interspersed | DocumentKind::Comments => 5,
+            DocumentKind::TooWide | DocumentKind::RejectedAfter => 10,
             _ => 80,
         }
     }
@@ -137,19 +137,19 @@ impl Kind {
     /// Builds it in this place.
     pub fn document<'a, D: DocPlace<'a>>(self, place: &'a D) -> Result<D::Doc, BuildError> {
         match self {
-            Kind::Repeated => repeated(place),
-            Kind::Interspersed => interspersed(place),
-            Kind::Reflowed => reflowed(place),
-            Kind::OfMacro => of_macro(place),
-            Kind::Owned => owned(place),
-            Kind::Printed => printed(place),
-            Kind::Suffixes => suffixes(place),
-            Kind::TooWide => too_wide(place),
-            Kind::Comments => comments(place),
-            Kind::EndingLine => ending_line(place),
-            Kind::RejectedAfter => rejected_after(place),
-            Kind::BothKept => both_kept(place),
-            Kind::Grouped => grouped(place),
+            DocumentKind::Repeated => repeated(place),
+            DocumentKind::Interspersed => interspersed(place),
+            DocumentKind::Reflowed => reflowed(place),
+            DocumentKind::OfMacro => of_macro(place),
+            DocumentKind::Owned => owned(place),
+            DocumentKind::Printed => printed(place),
+            DocumentKind::Suffixes => suffixes(place),
+            DocumentKind::TooWide => too_wide(place),
+            DocumentKind::Comments => comments(place),
+            DocumentKind::EndingLine => ending_line(place),
+            DocumentKind::RejectedAfter => rejected_after(place),
+            DocumentKind::BothKept => both_kept(place),
+            DocumentKind::Grouped => grouped(place),
         }
     }
 }

@@ -11,7 +11,7 @@ mod documents;
 mod parts;
 
 use arrayvec::ArrayVec;
-use documents::{ALL, COPIED, COUNTED, KEPT, Kind};
+use documents::{ALL, COPIED, COUNTED, DocumentKind, KEPT};
 use prettyless::text::BuildError;
 use prettyless::{
     Arena, BoxAllocator, BoxDoc, Bump, DocPlace, DocPtr, IoWrite, RcAllocator, RenderError,
@@ -36,7 +36,7 @@ enum Written {
 }
 
 // Builds a document, once more where memory is refused.
-fn build<'a, D: DocPlace<'a>>(place: &'a D, kind: Kind) -> Option<D::Doc> {
+fn build<'a, D: DocPlace<'a>>(place: &'a D, kind: DocumentKind) -> Option<D::Doc> {
     match kind.document(place) {
         Err(BuildError::Memory(_)) => kind.document(place).ok(),
         built => built.ok(),
@@ -81,7 +81,7 @@ fn lay_out<'a, T: DocPtr<'a>>(memory: Global, document: &T, width: usize) -> Opt
 fn print<'a, R: AllocGlobal + Print, T: DocPtr<'a>>(
     rt: &R,
     place: &str,
-    kind: Kind,
+    kind: DocumentKind,
     document: &T,
 ) -> Option<()> {
     let layout = lay_out(rt.alloc(), document, kind.width())?;

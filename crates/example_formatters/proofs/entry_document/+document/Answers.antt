@@ -4,8 +4,8 @@ use Rattle.std.proofs.lemmas.Result.{IfOk-weaker}
 use Rattle.prettyless.specs.Shows.{shows}
 use Rattle.prettyless.specs.Trees.{box_tree}
 use Rattle.example_formatters.specs.EntryItems.{block_items, entry_items}
-use Rattle.example_formatters.specs.declared.entry.Entry.TheFolds.{fold_out-Entry}
-use Rattle.example_formatters.specs.declared.entry.Entry.TheViews.{the_lemmas}
+use Rattle.example_formatters.specs.declared.entry.ConfigurationEntry.TheFolds.{fold_out-ConfigurationEntry}
+use Rattle.example_formatters.specs.declared.entry.ConfigurationEntry.TheViews.{the_lemmas}
 use Rattle.example_formatters.proofs.EntryShows.{one_more}
 use Rattle.example_formatters.proofs.entry_document.+document.Goals as goal
 
@@ -21,7 +21,7 @@ returns-after-loop-entry t c =
     let entries = c.deref-entry-items.result.now in
     let each = rw (take_all c.loop-entry.entry-index entries c.loop-entry-test.false) at c.loop-entry.invariant in
     let same : block_items (string_bytes c.in-Block.name) (map entry_items c.in-Block.entries.items) ≡ entry_items c.args.entry.now =
-    rw c.in-Block.is (search (rules, the_lemmas, fold_out-Entry)) in
+    rw c.in-Block.is (search (rules, the_lemmas, fold_out-ConfigurationEntry)) in
     IfOk-weaker c.braces.result _ _
     (λ p shown. subst (shows (box_tree p)) same
     (rw (c.as_str.ensures.value, c.deref-entry-items.ensures.value) at (shown (map entry_items entries) each)))
