@@ -1,6 +1,6 @@
 //! Messages about texts that are refused.
 use std::io;
-use text_places::Place;
+use text_lexemes::Place;
 
 // The longest word that a message shows, in bytes.
 const SHOWN: usize = 32;

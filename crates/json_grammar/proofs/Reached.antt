@@ -8,8 +8,8 @@ use Rattle.std.proofs.lemmas.Bool.{cases_Bool}
 use Rattle.std.proofs.lemmas.List.{drop-drop, length-take}
 use Rattle.json_grammar.specs.Faults.{begins_value, expects_string, is_plain, plain_front, IsFaultBy, IsStopFrom, ReachesJson}
 use Rattle.json_grammar.specs.Faults.{IsOpening, OpensWithin, StopsAtEnd, StopsAtLexeme, StopsBeingJson}
-use Rattle.text_places.specs.Places.{IsPlace}
-use Rattle.text_places.specs.declared.place.Place.{Place}
+use Rattle.text_lexemes.specs.Places.{IsPlace}
+use Rattle.text_lexemes.specs.declared.place.Place.{Place}
 use Rattle.json_lexemes.specs.Lexemes.{lexemes}
 use Rattle.json_lexemes.specs.SpacedLexemes.{Spaced, after_gap, after_lexeme, first_spaces, lexemes_of, put_together}
 use Rattle.json_lexemes.specs.SpacedLexemes.{spaced_as, spaced_lexemes}

@@ -4,8 +4,8 @@ use Rattle.std.specs.Prelude.{Some, None}
 use Rattle.std.specs.Char.{is_ascii_alphanumeric}
 use Rattle.std.specs.List.{prefix_len}
 use Rattle.std.specs.Str.{IsValidUpTo}
-use Rattle.text_places.specs.Places.{IsPlace}
-use Rattle.text_places.specs.declared.place.Place.{Place}
+use Rattle.text_lexemes.specs.Places.{IsPlace}
+use Rattle.text_lexemes.specs.declared.place.Place.{Place}
 use Rattle.json.specs.Ascii as ascii
 use Rattle.json_lexemes.specs.SpacedLexemes.{Spaced, lexemes_of, put_together, spaced_lexemes}
 use Rattle.json_grammar.specs.Next.{after_value, expects_value, is_key}

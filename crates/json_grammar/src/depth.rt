@@ -1,7 +1,7 @@
 //! Where a text is deeper than it may be.
 ghost use Rattle.std.specs.Prelude.{◌≡◌, ◌⊎◌, ◌≤◌, ◌∷◌, [], length, true, IfOk, IfSome};
 ghost use Rattle.json.specs.Ascii as ascii;
-ghost use Rattle.text_places.specs.Places.{IsPlaceWithin};
+ghost use Rattle.text_lexemes.specs.Places.{IsPlaceWithin};
 ghost use Rattle.json_lexemes.specs.View.{text_of};
 ghost use Rattle.json_grammar.specs.Faults.{IsOpening, OpensWithin};
 
@@ -10,7 +10,7 @@ use crate::fault::Fault;
 use crate::next::Reading;
 use json_lexemes::{Lexeme, Lexer, spaces_end};
 use std::alloc::{AllocError, Global};
-use text_places::place_at;
+use text_lexemes::place_at;
 
 /// Whether a lexeme opens an array or an object.
 fn opens(lexeme: Lexeme<'_>) -> bool

@@ -2,7 +2,7 @@
 ghost use Rattle.std.specs.Prelude.{◌≡◌, ◌+◌, ◌^◌, ◌<◌, ◌≤◌, length, min, take, None, IfOk, IfSome};
 ghost use Rattle.std.specs.Str.{IsUtf8};
 ghost use Rattle.json_validity.specs.Document.{document};
-ghost use Rattle.text_places.specs.Places.{IsPlace, IsPlaceWithin};
+ghost use Rattle.text_lexemes.specs.Places.{IsPlace, IsPlaceWithin};
 ghost use Rattle.json.specs.Ascii as ascii;
 ghost use Rattle.json.specs.Word.{head};
 ghost use Rattle.json_lexemes.specs.View.{IsNamed, text_of};
@@ -18,7 +18,7 @@ use crate::string::refused_part;
 use json_lexemes::{Lexeme, Lexer, spaces_end};
 use std::alloc::{AllocError, Global};
 use std::str::from_utf8;
-use text_places::{Place, place_at};
+use text_lexemes::{Place, place_at};
 
 /// Why a text is not JSON.
 #[derive(Clone, Copy, Drop)]

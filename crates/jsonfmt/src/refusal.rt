@@ -3,7 +3,7 @@ use formatter_files::message::{say_expected, say_opened, say_word};
 use json_grammar::{Expected, depth_fault, fault_of};
 use json_lexemes::Lexeme;
 use std::io;
-use text_places::Place;
+use text_lexemes::Place;
 
 /// Where a text is from, as messages name it and its places.
 #[derive(Clone, Copy, Drop)]

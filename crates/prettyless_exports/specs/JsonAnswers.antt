@@ -9,7 +9,7 @@ use Rattle.json_formatter.specs.declared.style.LineEnd.TheVariants.{Lf}
 use Rattle.json_formatter.specs.declared.style.Style.{Style}
 use Rattle.json_grammar.specs.Expected.{name_of}
 use Rattle.json_grammar.specs.Faults.{IsEndOfUtf8, NamesJsonStop}
-use Rattle.text_places.specs.Places.{IsPlaceWithin}
+use Rattle.text_lexemes.specs.Places.{IsPlaceWithin}
 use Rattle.json_grammar.specs.declared.expected.Expected.{Expected}
 use Rattle.json_grammar.specs.declared.expected.Expected.TheVariants.{Utf8}
 use Rattle.prettyless_exports.specs.Overlay.{overlay, Holds, IsUntouched}

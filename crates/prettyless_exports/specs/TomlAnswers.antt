@@ -1,7 +1,7 @@
 -- What a call for the layout of a TOML text answers, for each status.
 use Rattle.std.specs.Prelude.{◌≡◌, ◌≤◌, ◌<◌, ◌⊎◌, ℕ, List, length, take, codes, true, false}
 use Rattle.std.specs.Str.{IsUtf8}
-use Rattle.text_places.specs.Places.{IsPlaceWithin}
+use Rattle.text_lexemes.specs.Places.{IsPlaceWithin}
 use Rattle.prettyless_exports.specs.Overlay.{overlay, Holds, IsUntouched}
 use Rattle.toml_formatter.specs.Formats.{IsFormattedToml}
 use Rattle.toml_grammar.specs.Grammar.{is_toml}

@@ -5,7 +5,7 @@ ghost use Rattle.prettyless_exports.specs.Texts.{IsPut};
 
 use crate::area::Area;
 use prettyless_sink::render::Render;
-use text_places::Place;
+use text_lexemes::Place;
 
 /// How much of a text was put into an area.
 #[derive(Clone, Copy, Debug, PartialEq, Eq)]

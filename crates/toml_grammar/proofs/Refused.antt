@@ -2,8 +2,8 @@
 use Rattle.std.proofs.Common.{◌≡◌, sym, subst, ℕ, min, Bool, true, false, cond, List, take, length, arith}
 use Rattle.std.specs.Prelude.{Option, Some, None, IfSome}
 use Rattle.std.proofs.lemmas.List.{take_min}
-use Rattle.text_places.specs.Places.{IsPlace, IsPlaceWithin}
-use Rattle.text_places.specs.declared.place.Place.{Place}
+use Rattle.text_lexemes.specs.Places.{IsPlace, IsPlaceWithin}
+use Rattle.text_lexemes.specs.declared.place.Place.{Place}
 use Rattle.toml_grammar.specs.Refusals.{IsMissed, IsOpenedPlace}
 use Rattle.toml_grammar.specs.declared.expected.Expected.{Expected}
 use Rattle.toml_grammar.specs.declared.expected.Expected.TheVariants as want

@@ -1,7 +1,7 @@
 -- Why a text is refused, and where.
 use Rattle.std.specs.Prelude.{◌≡◌, ℕ, ◌+◌, ◌&&◌, nat_le, nat_lt, Bool, true, false, cond, List, length, take, Option, Some, None, codes}
-use Rattle.text_places.specs.Places.{IsPlace}
-use Rattle.text_places.specs.declared.place.Place.{Place}
+use Rattle.text_lexemes.specs.Places.{IsPlace}
+use Rattle.text_lexemes.specs.declared.place.Place.{Place}
 use Rattle.toml_lexemes.specs.SpacedLexer.{text_if}
 use Rattle.toml_grammar.specs.Expected.{expected_name}
 use Rattle.toml_grammar.specs.Faults.{IsFault}

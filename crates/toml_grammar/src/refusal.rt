@@ -1,7 +1,7 @@
 //! Why a text is refused, and where.
 ghost use Rattle.std.specs.Prelude.{◌≡◌, ◌≤◌, length, codes, true, false, None, IfOk, IfSome};
 ghost use Rattle.std.specs.Str.{IsUtf8};
-ghost use Rattle.text_places.specs.Places.{IsPlaceWithin};
+ghost use Rattle.text_lexemes.specs.Places.{IsPlaceWithin};
 ghost use Rattle.toml_grammar.specs.Faults.{IsFault};
 ghost use Rattle.toml_grammar.specs.Grammar.{is_toml};
 ghost use Rattle.toml_grammar.specs.Nesting.{is_too_deep};
@@ -17,7 +17,7 @@ use crate::opened::opened_at;
 use crate::stop::{Found, found_of, stop_of};
 use std::alloc::{AllocError, Global};
 use std::str::from_utf8;
-use text_places::{Place, place_at};
+use text_lexemes::{Place, place_at};
 use toml_lexemes::Lexeme;
 
 /// Why a text is refused.

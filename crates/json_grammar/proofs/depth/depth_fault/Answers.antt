@@ -1,5 +1,5 @@
 use Rattle.std.proofs.Common.{◌≡◌, ◌≤◌, ℕ, ◌+◌, List, length, take, drop, ap, subst, arith}
-use Rattle.text_places.specs.Places.{IsPlace}
+use Rattle.text_lexemes.specs.Places.{IsPlace}
 use Rattle.json_lexemes.specs.SpacedLexemes.{first_spaces}
 use Rattle.json_lexemes.specs.View.{text_of}
 use Rattle.json_grammar.specs.Steps.{json_reading_of}

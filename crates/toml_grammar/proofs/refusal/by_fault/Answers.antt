@@ -1,6 +1,6 @@
 use Rattle.std.proofs.Common.{◌≡◌, ap, subst, ◌∙◌, ◌+◌, ℕ, min, Bool, List, take, length, arith}
 use Rattle.std.proofs.lemmas.List.{take_min}
-use Rattle.text_places.specs.Places.{IsPlace}
+use Rattle.text_lexemes.specs.Places.{IsPlace}
 use Rattle.toml_grammar.specs.Expected.{expected_name}
 use Rattle.toml_grammar.specs.Opened.{innermost_opened, opened_in}
 use Rattle.toml_grammar.specs.Refusals.{is_last, IsOpenedPlace}

@@ -1,8 +1,8 @@
 use Rattle.std.proofs.Common.{◌≡◌, sym, ap, subst, ◌∙◌, ℕ, Bool, true, false, cond, List, take, length, min, arith}
 use Rattle.std.specs.Prelude.{Option, Some, None, nat_lt}
 use Rattle.std.proofs.lemmas.List.{take_min}
-use Rattle.text_places.specs.Places.{IsPlace}
-use Rattle.text_places.specs.declared.place.Place.{Place}
+use Rattle.text_lexemes.specs.Places.{IsPlace}
+use Rattle.text_lexemes.specs.declared.place.Place.{Place}
 use Rattle.toml_grammar.specs.Opened.{innermost_opened, opened_in}
 use Rattle.toml_grammar.specs.Refusals.{IsMissed, is_missed}
 use Rattle.toml_grammar.specs.declared.fault.Fault.{Fault}

@@ -1,5 +1,5 @@
 ghost use Rattle.std.specs.Prelude.{◌≡◌, ◌+◌, ◌^◌, ◌<◌, ◌≤◌, ℕ, List, [], ◌∷◌, ◌++◌, length, take};
-ghost use Rattle.text_places.specs.Places.{IsPlace, begins_character};
+ghost use Rattle.text_lexemes.specs.Places.{IsPlace, begins_character};
 
 /// A place in a text: its line and its column, from 1. A column is a character.
 #[derive(Clone, Copy, Debug, Drop, PartialEq, Eq)]

@@ -4,8 +4,8 @@ use Rattle.std.proofs.Common.{inl, inr, arith}
 use Rattle.std.specs.List.{count_by}
 use Rattle.std.proofs.lemmas.List.{append-nil}
 use Rattle.std.proofs.lemmas.List.Sums.{count_by-le-length, sum_by-append}
-use Rattle.text_places.specs.Places.{is_line_feed, is_counted, IsPlace}
-use Rattle.text_places.specs.declared.place.Place.{Place}
+use Rattle.text_lexemes.specs.Places.{is_line_feed, is_counted, IsPlace}
+use Rattle.text_lexemes.specs.declared.place.Place.{Place}
 
 module _ (p : ℕ → Bool) (xs : List ℕ) (b : ℕ) where
   count_yes : p b ≡ true → count_by p (xs ++ b ∷ []) ≡ count_by p xs + 1

@@ -1,7 +1,7 @@
 use Rattle.std.proofs.Common.{arith}
 use Rattle.std.proofs.lemmas.Grind.{common_steps}
-use Rattle.text_places.proofs.Placed.{after_line}
-use Rattle.text_places.proofs.place.after.Goals as goal
+use Rattle.text_lexemes.proofs.Placed.{after_line}
+use Rattle.text_lexemes.proofs.place.after.Goals as goal
 
 pub returns-then-byte-eq10 : goal.returns-then-byte-eq10
 returns-then-byte-eq10 c bytes h = rw c.if-byte-eq10.true (after_line bytes c.args.place h)

@@ -1,7 +1,7 @@
 -- Places in a text, as people count.
 use Rattle.std.specs.Prelude.{◌≡◌, ℕ, ◌+◌, Bool, nat_lt, nat_le, ◌||◌, ◌&&◌, not, ◌==◌, List, [], ◌∷◌, ◌++◌, ◌⊎◌, ◌≤◌, length, take}
 use Rattle.std.specs.Prelude.{count_by}
-use Rattle.text_places.specs.declared.place.Place.{Place}
+use Rattle.text_lexemes.specs.declared.place.Place.{Place}
 
 -- a character begins with this byte: it continues none
 abbrev pub begins_character : ℕ → Bool

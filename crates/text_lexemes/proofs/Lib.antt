@@ -1,0 +1,4 @@
+pub mod Placed
+pub mod Cuts
+pub mod WellSpaced
+pub mod JoinedTexts

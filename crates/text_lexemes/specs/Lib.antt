@@ -1,0 +1,4 @@
+pub mod Places
+pub mod Languages
+pub mod SpacedTexts
+pub mod LexemeLaws
