@@ -1,10 +1,9 @@
 -- The cut of a text, byte by byte, and what may follow a lexeme.
-use Rattle.std.proofs.Common.{◌≡◌, ℕ, Bool, true, false, cond, List, [], ◌∷◌, ◌++◌, refl, sym, ap, ◌∙◌, subst}
+use Rattle.std.proofs.Common.{◌≡◌, ℕ, true, false, cond, List, [], ◌∷◌, ◌++◌, refl, sym, ap, ◌∙◌, subst}
 use Rattle.std.specs.Prelude.{⊤}
-use Rattle.std.proofs.lemmas.Bool.{true≢false}
 use Rattle.text_lexemes.specs.Languages.{First, alone, begins, Turn, goes_on, ends, stops, LexerMode, between, within, Language}
 use Rattle.text_lexemes.specs.Languages.{lengthened, cut_first, cut_turn, cut_between, cut}
-use Rattle.text_lexemes.specs.SpacedTexts.{OnTurn, OnFirst, IsGap, StopsBefore, EndsWithin, MayFollow, IsWellSpaced}
+use Rattle.text_lexemes.specs.SpacedTexts.{OnTurn, OnFirst, IsGap, StopsBefore, EndsWithin, MayFollow}
 
 -- ---- a byte in front of a lexeme
 

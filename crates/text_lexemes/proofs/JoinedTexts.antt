@@ -1,12 +1,11 @@
 -- The lexemes of a text with their gaps are the text, put together.
-use Rattle.std.proofs.Common.{◌≡◌, ℕ, ◌+◌, Bool, true, false, cond, List, [], ◌∷◌, ◌++◌, length, drop, map, All, refl, sym, ap, ◌∙◌, subst}
+use Rattle.std.proofs.Common.{◌≡◌, ℕ, ◌+◌, true, false, cond, List, [], ◌∷◌, ◌++◌, length, drop, map, All, refl, sym, ap, ◌∙◌, subst}
 use Rattle.std.proofs.Common.{append-nil}
-use Rattle.std.specs.Prelude.{⊤}
 use Rattle.std.specs.List.{AllByRecursion}
 use Rattle.std.proofs.Math.Seq.{drop-append_seam, drop-append-add}
 use Rattle.std.proofs.lemmas.List.Elements.{All-from_recursion}
 use Rattle.text_lexemes.specs.Languages.{between, Language, cut}
-use Rattle.text_lexemes.specs.SpacedTexts.{Spaced, after_gap, put_together, IsGap, blanks, spaced_as, spaced_in, IsSpacedText, MayFollow, IsWellSpaced}
+use Rattle.text_lexemes.specs.SpacedTexts.{Spaced, after_gap, put_together, IsGap, blanks, spaced_as, spaced_in, MayFollow, IsWellSpaced}
 use Rattle.text_lexemes.proofs.WellSpaced.{well_spaced}
 
 module _ {Inner : Type 0} (L : Language Inner) where

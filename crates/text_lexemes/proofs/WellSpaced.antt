@@ -1,13 +1,12 @@
 -- A text is its lexemes, with gaps around them, and after each stands what may follow it.
-use Rattle.std.proofs.Common.{◌≡◌, ◌↔◌, ℕ, ◌<◌, Bool, true, false, cond, List, [], ◌∷◌, ◌++◌, length, All, refl, sym, ap, ◌∙◌, subst, append-nil}
+use Rattle.std.proofs.Common.{◌≡◌, ℕ, Bool, true, false, List, [], ◌∷◌, ◌++◌, length, All, refl, sym, ap, ◌∙◌, subst, append-nil}
 use Rattle.std.proofs.Common.{arith}
-use Rattle.std.specs.Prelude.{⊤, ◌≢◌}
+use Rattle.std.specs.Prelude.{◌≢◌}
 use Rattle.std.specs.List.{AllByRecursion}
-use Rattle.std.proofs.lemmas.Bool.{true≢false}
 use Rattle.std.proofs.lemmas.List.Elements.{All-from_recursion}
 use Rattle.text_lexemes.specs.Languages.{First, alone, begins, Turn, goes_on, ends, stops, LexerMode, between, within, Language}
 use Rattle.text_lexemes.specs.Languages.{lengthened, cut_first, cut_turn, cut, IsLexeme}
-use Rattle.text_lexemes.specs.SpacedTexts.{OnTurn, OnFirst, IsGap, IsSpacedText, StopsBefore, EndsWithin, MayFollow, IsWellSpaced, IsLocal}
+use Rattle.text_lexemes.specs.SpacedTexts.{OnTurn, OnFirst, IsSpacedText, EndsWithin, MayFollow, IsWellSpaced, IsLocal}
 use Rattle.text_lexemes.proofs.Cuts.{shortened, some_cut, cut_nil, cut_inside_nil, cut_blank, cut_begun, cut_turned, cut_lexeme, cut_gap, part_cut}
 
 module _ {Inner : Type 0} (L : Language Inner) where

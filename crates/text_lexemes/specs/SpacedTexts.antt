@@ -1,6 +1,6 @@
 -- Texts with gaps around them, and what may follow a lexeme.
-use Rattle.std.specs.Prelude.{◌≡◌, ℕ, ◌+◌, Bool, true, false, List, [], ◌∷◌, ◌++◌, length, drop, cond, ⊤}
-use Rattle.text_lexemes.specs.Languages.{First, alone, begins, Turn, goes_on, ends, stops, Language, between, lexemes_in}
+use Rattle.std.specs.Prelude.{◌≡◌, ℕ, ◌+◌, true, false, List, [], ◌∷◌, ◌++◌, length, drop, cond, ⊤}
+use Rattle.text_lexemes.specs.Languages.{First, alone, begins, Turn, goes_on, ends, stops, Language, lexemes_in}
 
 -- a lexeme after its gap; at the end of the text the last gap, and an empty lexeme
 pub record Spaced : Type 0 where

@@ -1,0 +1,6 @@
+//! Documents that show the lexemes of a language: which gaps keep them apart, so that each layout has these lexemes.
+#![tactic(auto)]
+
+mod laws;
+
+pub use laws::law_shown;
