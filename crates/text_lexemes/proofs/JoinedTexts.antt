@@ -28,11 +28,11 @@ module _ {Inner : Type 0} (L : Language Inner) where
   drop_fronts g s rest = drop-append-add g (s ++ rest) (length s) ∙ drop-append_seam s rest
 
   -- the first lexeme with its gap, and the others
-  pub first_spaced : (g s rest : List ℕ) (ss : List (List ℕ)) → IsGap L g → MayFollow L s rest
+  pub first_spaced : (g s after rest : List ℕ) (ss : List (List ℕ)) → IsGap L g → MayFollow L s after
       → spaced_as L (g ++ (s ++ rest)) (s ∷ ss) ≡ after_gap g s ∷ spaced_as L rest ss
-  first_spaced g s rest ss gap follows =
+  first_spaced g s after rest ss gap follows =
       ap (λ b. after_gap b s ∷ spaced_as L (drop (length b + length s) (g ++ (s ++ rest))) ss)
-      (blanks_gap g (s ++ rest) gap (no_blanks s rest rest follows))
+      (blanks_gap g (s ++ rest) gap (no_blanks s after rest follows))
       ∙ ap (λ l. after_gap g s ∷ spaced_as L l ss) (drop_fronts g s rest)
 
   abbrev AreGaps : List Spaced → Type 0
@@ -42,7 +42,7 @@ module _ {Inner : Type 0} (L : Language Inner) where
       → (put_together (spaced_as L bytes ss) ≡ bytes) × AreGaps (spaced_as L bytes ss)
   joined_as [] bytes gap = (append-nil bytes, (gap, tt))
   joined_as (s ∷ ss) bytes (g, rest, gap, is, follows, h) =
-      let first = first_spaced g s rest ss gap follows in
+      let first = first_spaced g s rest rest ss gap follows in
       let others = joined_as ss rest h in
       subst (λ b. (put_together (spaced_as L b (s ∷ ss)) ≡ b) × AreGaps (spaced_as L b (s ∷ ss))) (sym is)
       (ap put_together first ∙ ap (λ l. g ++ (s ++ l)) others.0, subst AreGaps (sym first) (gap, others.1))

@@ -112,6 +112,21 @@ module _ {Inner : Type 0} (L : Language Inner) where
 
   -- ---- lexemes alone
 
+  -- a byte that is one of a lexeme before later bytes is so too before none
+  pub local_by_turns : ((i : Inner) (x : ℕ) (s rest : List ℕ) (t : Turn Inner) → L.turn i x (s ++ rest) ≡ t → (t ≡ stops → ⊥)
+      → L.turn i x (s ++ []) ≡ t)
+      → IsLocal L
+  local_by_turns same i [] rest h = tt
+  local_by_turns same i (x ∷ s) rest h = by_turn (λ n. local_by_turns same n s rest) (L.turn i x (s ++ rest)) refl h
+    where
+      by_turn : ((n : Inner) → EndsWithin L n s rest → EndsWithin L n s []) → (t : Turn Inner) → L.turn i x (s ++ rest) ≡ t
+          → OnTurn t s (λ n. EndsWithin L n s rest) → EndsWithin L i (x ∷ s) []
+      by_turn more (goes_on n) e h =
+          subst (λ t. OnTurn t s (λ n. EndsWithin L n s [])) (sym (same i x s rest (goes_on n) e (λ f. cc))) (more n h)
+      by_turn more ends e h =
+          subst (λ t. OnTurn t s (λ n. EndsWithin L n s [])) (sym (same i x s rest ends e (λ f. cc))) h
+      by_turn more stops e h = absurd h
+
   pub alone_too : IsLocal L → (s rest : List ℕ) → MayFollow L s rest → MayFollow L s []
   alone_too local [] rest h = h
   alone_too local (x ∷ s) rest h = (h.0, by_first (L.first x) h.1)

@@ -1,4 +1,5 @@
 pub mod Places
 pub mod Languages
 pub mod SpacedTexts
+pub mod FirstLexemes
 pub mod LexemeLaws

@@ -8,7 +8,8 @@ use Rattle.std.proofs.Math.Seq.{take-length}
 use Rattle.std.proofs.lemmas.Bool.{and_parts}
 use Rattle.std.proofs.lemmas.List.Elements.{All-head, All-tail}
 use Rattle.prettyless_model.specs.Spaces.{spaces}
-use Rattle.toml_lexemes.specs.Lexemes.{between, cut_toml, toml_lexemes_of}
+use Rattle.text_lexemes.specs.Languages.{between}
+use Rattle.toml_lexemes.specs.Lexemes.{cut_toml, toml_lexemes_of}
 use Rattle.toml_lexemes.specs.Spaced.{IsWellSpaced}
 use Rattle.toml_lexemes.specs.SpacedLexemes.{SpacedToml, after_toml_gap, toml_put_together, toml_spaced_as, toml_spaced_lexemes}
 use Rattle.toml_lexemes.proofs.Gaps.{IsWellSpaced-lexemes, lexemes_alone}

@@ -6,7 +6,8 @@ use Rattle.std.proofs.lemmas.List.Elements.{All-head, All-tail}
 use Rattle.prettyless_model.specs.Spaces.{spaces}
 use Rattle.std.specs.Prelude.{Option, Some, None, ◌-◌, if◌then◌else◌, zero, suc}
 use Rattle.toml_lexemes.specs.Bytes.{is_blank, is_quote}
-use Rattle.toml_lexemes.specs.Lexemes.{begins_line_feed, LexerMode, between, within, cut_toml, toml_lexemes_of}
+use Rattle.text_lexemes.specs.Languages.{LexerMode, between, within, cut}
+use Rattle.toml_lexemes.specs.Lexemes.{Inner, begins_line_feed, cut_toml, toml_lexemes_of}
 use Rattle.toml_lexemes.specs.Spaced.{begins_line_end, EndsBefore, IsTomlGap, IsWellSpaced, MayFollow, mode_after}
 use Rattle.toml_lexemes.specs.SpacedLexemes.{SpacedToml, after_toml_gap, toml_put_together, toml_spaced_as}
 use Rattle.toml_lexemes.proofs.Following.{blank_may_follow, first_byte_decides}
@@ -23,7 +24,7 @@ use Rattle.toml_documents.specs.declared.standing.Standing.{Standing}
 -- ---- what may follow a lexeme
 
 -- two bytes decide what may follow
-ends_at_two : (m : LexerMode) (x y : ℕ) (xs ys : List ℕ) → EndsBefore m (x ∷ y ∷ xs) → EndsBefore m (x ∷ y ∷ ys)
+ends_at_two : (m : LexerMode Inner) (x y : ℕ) (xs ys : List ℕ) → EndsBefore m (x ∷ y ∷ xs) → EndsBefore m (x ∷ y ∷ ys)
 ends_at_two between x y xs ys e = tt
 ends_at_two (within i) x y xs ys e = e
 
@@ -32,12 +33,12 @@ two_bytes s x y xs ys h = record { ended = ends_at_two (mode_after between s) x 
 
 -- no lexeme is a CR
 no_return : (x : ℕ) → cut_toml between (x ∷ []) ≡ (x ∷ []) ∷ [] → x ≢ 13
-unfolding cut_toml
+unfolding cut
 no_return x alone e = let same : cut_toml between (13 ∷ []) ≡ (13 ∷ []) ∷ [] = subst (λ (y : ℕ). cut_toml between (y ∷ []) ≡ (y ∷ []) ∷ []) e alone in cc
 
 -- what follows a gap and a lexeme does not matter
 pub follows_gap : (s g t rest other : List ℕ) → cut_toml between t ≡ t ∷ [] → MayFollow s (g ++ (t ++ rest)) → MayFollow s (g ++ (t ++ other))
-unfolding cut_toml
+unfolding cut
 follows_gap s (x ∷ y ∷ g) t rest other alone h = two_bytes s x y (g ++ (t ++ rest)) (g ++ (t ++ other)) h
 follows_gap s (x ∷ []) [] rest other alone h = absurd (cc)
 follows_gap s (x ∷ []) (y ∷ t) rest other alone h = two_bytes s x y (t ++ rest) (t ++ other) h

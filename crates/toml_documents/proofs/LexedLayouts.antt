@@ -9,7 +9,8 @@ use Rattle.prettyless_model.specs.declared.options.LineEnding.{LineEnding}
 use Rattle.prettyless_model.specs.declared.options.LineEnding.TheVariants.{Lf, Crlf}
 use Rattle.prettyless_model.specs.declared.options.RenderOptions.{RenderOptions}
 use Rattle.toml_lexemes.specs.Bytes.{ends_word, head, is_quote}
-use Rattle.toml_lexemes.specs.Lexemes.{between, cut_toml}
+use Rattle.text_lexemes.specs.Languages.{between}
+use Rattle.toml_lexemes.specs.Lexemes.{cut_toml}
 use Rattle.toml_lexemes.specs.Shown.{IsWholeLexeme}
 use Rattle.toml_lexemes.proofs.Gaps.{IsWellSpaced-lexemes, lexemes_alone}
 use Rattle.toml_lexemes.proofs.Kept.{same_lexemes}

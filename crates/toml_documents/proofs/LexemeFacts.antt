@@ -4,7 +4,8 @@ use Rattle.std.proofs.lemmas.Bool.{eqb-true, true≢false}
 use Rattle.std.proofs.lemmas.List.Elements.{All-head, All-tail}
 use Rattle.toml_lexemes.specs.Bytes as byte
 use Rattle.toml_lexemes.specs.Bytes.{head, is_blank, is_quote}
-use Rattle.toml_lexemes.specs.Lexemes.{begins_line_feed, between, cut_toml}
+use Rattle.text_lexemes.specs.Languages.{between}
+use Rattle.toml_lexemes.specs.Lexemes.{begins_line_feed, cut_toml}
 use Rattle.toml_lexemes.specs.Spaced.{IsTomlGap, IsWellSpaced, MayFollow, begins_line_end}
 use Rattle.toml_lexemes.proofs.Following.{comments_are_ended}
 use Rattle.toml_lexemes.proofs.Gaps.{IsWellSpaced-lexemes, lexemes_alone}

@@ -15,7 +15,8 @@ use Rattle.prettyless_model.specs.declared.mode.Mode.{Mode}
 use Rattle.prettyless_model.specs.declared.mode.Mode.TheVariants.{Break, Flat}
 use Rattle.toml_lexemes.specs.Bytes as byte
 use Rattle.toml_lexemes.specs.Bytes.{is_quote}
-use Rattle.toml_lexemes.specs.Lexemes.{between, cut_toml}
+use Rattle.text_lexemes.specs.Languages.{between, cut}
+use Rattle.toml_lexemes.specs.Lexemes.{cut_toml}
 use Rattle.toml_lexemes.specs.Statements.{trimmed}
 use Rattle.toml_grammar.specs.Sorts as sort
 use Rattle.toml_grammar.specs.Sorts.{Sort, sort_of}
@@ -511,7 +512,7 @@ comma_alone false false false false false false false false true p = absurd (cc)
 comma_alone false false false false false false false false false p = absurd (cc)
 
 comma_is : (s : List ℕ) → sort_of s ≡ sort.comma → cut_toml between s ≡ s ∷ [] → s ≡ byte.comma ∷ []
-unfolding cut_toml
+unfolding cut
 comma_is [] p alone = absurd (cc)
 comma_is (x ∷ t) p alone =
     let byte : x ≡ 44 =

@@ -5,7 +5,8 @@ use Rattle.std.specs.Prelude.{Some, None}
 use Rattle.std.proofs.lemmas.Bool.{eqb-true, and_parts}
 use Rattle.std.proofs.lemmas.List.Elements.{All-cons, All-head, All-tail}
 use Rattle.toml_lexemes.specs.Bytes.{is_quote}
-use Rattle.toml_lexemes.specs.Lexemes.{between, cut_toml, toml_lexemes_of}
+use Rattle.text_lexemes.specs.Languages.{between, cut}
+use Rattle.toml_lexemes.specs.Lexemes.{cut_toml, toml_lexemes_of}
 use Rattle.toml_lexemes.specs.Spaced.{IsTomlGap, IsWellSpaced, MayFollow}
 use Rattle.toml_lexemes.specs.SpacedLexemes.{SpacedToml, after_toml_gap, toml_put_together, toml_spaced_as, toml_spaced_lexemes}
 use Rattle.toml_lexemes.proofs.Gaps.{IsWellSpaced-lexemes, follows_one, lexemes_alone}
@@ -46,7 +47,7 @@ three : (g s rest later : List ℕ) → (g ++ (s ++ rest)) ++ later ≡ g ++ (s 
 three g s rest later = append_assoc g (s ++ rest) later ∙ ap (λ (l : List ℕ). g ++ l) (append_assoc s rest later)
 
 some_text : (s : List ℕ) → cut_toml between s ≡ s ∷ [] → is_text_end s ≡ false
-unfolding cut_toml
+unfolding cut
 some_text [] alone = absurd (cc)
 some_text (x ∷ s) alone = refl
 

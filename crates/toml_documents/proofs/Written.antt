@@ -10,7 +10,8 @@ use Rattle.prettyless_model.specs.declared.options.LineEnding.{LineEnding}
 use Rattle.prettyless_model.specs.declared.options.LineEnding.TheVariants.{Lf, Crlf}
 use Rattle.prettyless_model.specs.declared.options.RenderOptions.{RenderOptions}
 use Rattle.toml_lexemes.specs.Bytes.{ends_word, head, is_quote, is_sign, is_blank}
-use Rattle.toml_lexemes.specs.Lexemes.{between, cut_toml}
+use Rattle.text_lexemes.specs.Languages.{between}
+use Rattle.toml_lexemes.specs.Lexemes.{cut_toml}
 use Rattle.toml_lexemes.specs.Shown.{EndsWell, IsWholeLexeme}
 use Rattle.toml_lexemes.specs.Statements.{Role, trimmed}
 use Rattle.toml_lexemes.specs.Spaced.{EndsWithReturn, IsTomlGap, MayFollow}

@@ -6,11 +6,10 @@ use Rattle.std.specs.Prelude.{⊤}
 use Rattle.std.specs.List.{fold}
 use Rattle.std.specs.Char.{is_digit}
 use Rattle.toml_lexemes.specs.Bytes.{is_quote}
-use Rattle.toml_lexemes.specs.Lexemes.{StringKind, basic, literal, quote_mark, in_comment, opened, doubled, in_line}
-use Rattle.toml_lexemes.specs.Lexemes.{in_line_escape, in_lines}
-use Rattle.toml_lexemes.specs.Lexemes.{in_lines_escape, closing, closing_more, closed, closed_more, LexerMode, between}
-use Rattle.toml_lexemes.specs.Lexemes.{within, first, ByteTurn}
-use Rattle.toml_lexemes.specs.Lexemes.{stops, line_turn, lines_turn, turn, begins_line_feed}
+use Rattle.text_lexemes.specs.Languages.{LexerMode, between, within, Turn, stops}
+use Rattle.toml_lexemes.specs.Lexemes.{Inner, StringKind, basic, literal, quote_mark, in_comment, opened, doubled, in_line}
+use Rattle.toml_lexemes.specs.Lexemes.{in_line_escape, in_lines, in_lines_escape, closing, closing_more, closed, closed_more, first}
+use Rattle.toml_lexemes.specs.Lexemes.{line_turn, lines_turn, turn, begins_line_feed}
 use Rattle.toml_lexemes.specs.Spaced.{mode_first, mode_turn, mode_after, EndsBefore, MayFollow}
 use Rattle.toml_grammar.specs.declared.string.Quoting.{Quoting}
 use Rattle.toml_grammar.specs.declared.string.Quoting.TheVariants.{Basic, Literal}
@@ -28,7 +27,7 @@ kind_of Basic = basic
 kind_of Literal = literal
 
 -- the mode of a lexer at each place
-abbrev mode_of : StringPlace → LexerMode
+abbrev mode_of : StringPlace → LexerMode Inner
 mode_of Start = between
 mode_of (Opened k) = within (opened (kind_of k))
 mode_of (Doubled k) = within (doubled (kind_of k))
@@ -47,20 +46,20 @@ mode_of (Hex lines due value) = cond lines (within (in_lines basic)) (within (in
 mode_of Wrong = between
 
 -- a lexer has the mode of the place, unless that is none of a string
-abbrev Agrees : LexerMode → StringPlace → Type 0
+abbrev Agrees : LexerMode Inner → StringPlace → Type 0
 Agrees m Wrong = ⊤
 Agrees m p = m ≡ mode_of p
 
 -- ---- one byte
 
 -- by one test on both sides
-agrees_both : (b : Bool) (t u : ByteTurn) (p r : StringPlace) → Agrees (mode_turn t) p → Agrees (mode_turn u) r
+agrees_both : (b : Bool) (t u : Turn Inner) (p r : StringPlace) → Agrees (mode_turn t) p → Agrees (mode_turn u) r
     → Agrees (mode_turn (cond b t u)) (cond b p r)
 agrees_both true t u p r f g = f
 agrees_both false t u p r f g = g
 
 -- by a test on the place alone
-agrees_either : (m : LexerMode) (b : Bool) (p r : StringPlace) → Agrees m p → Agrees m r → Agrees m (cond b p r)
+agrees_either : (m : LexerMode Inner) (b : Bool) (p r : StringPlace) → Agrees m p → Agrees m r → Agrees m (cond b p r)
 agrees_either m true p r f g = f
 agrees_either m false p r f g = g
 
@@ -143,11 +142,11 @@ agrees_first x =
     subst (Agrees (mode_first (first x))) (sym none) tt))
 
 -- the mode after a byte
-abbrev mode_next : LexerMode → ℕ → Bool → LexerMode
+abbrev mode_next : LexerMode Inner → ℕ → Bool → LexerMode Inner
 mode_next between x b = mode_first (first x)
 mode_next (within i) x b = mode_turn (turn i x b)
 
-mode_after-next : (m : LexerMode) (x : ℕ) (xs : List ℕ) → mode_after m (x ∷ xs) ≡ mode_after (mode_next m x (begins_line_feed xs)) xs
+mode_after-next : (m : LexerMode Inner) (x : ℕ) (xs : List ℕ) → mode_after m (x ∷ xs) ≡ mode_after (mode_next m x (begins_line_feed xs)) xs
 mode_after-next between x xs = refl
 mode_after-next (within i) x xs = refl
 
@@ -191,11 +190,11 @@ agrees_next (Hex false due value) x b = agrees_hex false due value x b
 agrees_next Wrong x b = tt
 
 -- in a mode that agrees
-agrees_on : (p : StringPlace) (m : LexerMode) → Agrees m p → (x : ℕ) (b : Bool) → Agrees (mode_next m x b) (string_next p x)
+agrees_on : (p : StringPlace) (m : LexerMode Inner) → Agrees m p → (x : ℕ) (b : Bool) → Agrees (mode_next m x b) (string_next p x)
 agrees_on Wrong m h x b = tt
 agrees_on p m h x b = subst (λ n. Agrees (mode_next n x b) (string_next p x)) (sym h) (agrees_next p x b)
 
-agrees_after : (s : List ℕ) (m : LexerMode) (p : StringPlace) → Agrees m p → Agrees (mode_after m s) (fold string_next p s)
+agrees_after : (s : List ℕ) (m : LexerMode Inner) (p : StringPlace) → Agrees m p → Agrees (mode_after m s) (fold string_next p s)
 agrees_after [] m p h = h
 agrees_after (x ∷ xs) m p h =
     subst (λ n. Agrees n (fold string_next (string_next p x) xs)) (sym (mode_after-next m x xs))
@@ -204,19 +203,19 @@ agrees_after (x ∷ xs) m p h =
 -- ---- at the end
 
 -- a byte that is no quote stops where the same quote would go on
-no_mark : (k : Quoting) (t : ByteTurn) (x : ℕ) → is_quote x ≡ false → cond (x == quote_mark (kind_of k)) t stops ≡ stops
+no_mark : (k : Quoting) (t : Turn Inner) (x : ℕ) → is_quote x ≡ false → cond (x == quote_mark (kind_of k)) t stops ≡ stops
 no_mark Basic t x q = ap (λ b. cond b t stops) (or_parts (x == 34) (x == 39) q).0
 no_mark Literal t x q = ap (λ b. cond b t stops) (or_parts (x == 34) (x == 39) q).1
 
 -- a lexer that is in this mode may stop before the byte x, and is in no comment
-record IsClosedAt (x : ℕ) (xs : List ℕ) (m : LexerMode) : Type 0 where
+record IsClosedAt (x : ℕ) (xs : List ℕ) (m : LexerMode Inner) : Type 0 where
   ended : EndsBefore m (x ∷ xs)
   no_comment : m ≡ within in_comment → ⊥
 
 abbrev ends_string : StringPlace → Bool
 ends_string p = ends_line_string p || ends_lines_string p
 
-closed_at : (p : StringPlace) (m : LexerMode) → Agrees m p → ends_string p ≡ true
+closed_at : (p : StringPlace) (m : LexerMode Inner) → Agrees m p → ends_string p ≡ true
     → (x : ℕ) (xs : List ℕ) → is_quote x ≡ false → IsClosedAt x xs m
 closed_at (Doubled k) m h e x xs q =
     subst (IsClosedAt x xs) (sym h) (record { ended = no_mark k _ x q; no_comment = λ r. cc })

@@ -4,13 +4,12 @@ use Rattle.std.proofs.Common.{inr}
 use Rattle.std.proofs.lemmas.Bool.{eqb-true, true≢false, false_from_ne_true}
 use Rattle.prettyless_model.specs.Shows.{EndsLine, IsBlank}
 use Rattle.prettyless_model.specs.Spelling.{is_blank_byte}
-use Rattle.toml_lexemes.specs.Lexemes.{in_comment, between, within, first, goes_on, stops, turn, begins_line_feed, lengthened_toml}
-use Rattle.toml_lexemes.specs.Lexemes.{cut_first}
-use Rattle.toml_lexemes.specs.Lexemes.{cut_toml}
+use Rattle.text_lexemes.specs.Languages.{between, within, goes_on, stops, lengthened, cut}
+use Rattle.toml_lexemes.specs.Lexemes.{in_comment, turn, begins_line_feed, cut_toml}
 use Rattle.toml_lexemes.specs.Spaced.{IsTomlGap, EndsWithReturn}
 use Rattle.toml_lexemes.proofs.Kept.{cut_turned, shortened, some_cut}
 use Rattle.toml_lexemes.specs.Statements.{trimmed}
-use Rattle.toml_lexemes.proofs.LineEnds.{line_ends, gap_byte, blank_byte, first_blank, cut_gap}
+use Rattle.toml_lexemes.proofs.LineEnds.{line_ends, gap_byte, blank_byte, cut_blank, cut_gap}
 use Rattle.toml_lexemes.proofs.Trimmed.{no_return}
 
 -- ---- what is before the comment's line end
@@ -22,7 +21,7 @@ GoesOn g w = (t : List ℕ) × IsTomlGap t × (cut_toml (within in_comment) (g +
 module _ (x : ℕ) (g w : List ℕ) (blank : IsBlank g) where
   -- a line feed ends it
   at_line_feed : x ≡ 10 → cut_toml (within in_comment) (x ∷ (g ++ w)) ≡ [] ∷ (10 ∷ []) ∷ (line_ends g ++ cut_toml between w)
-  unfolding cut_toml
+  unfolding cut
   at_line_feed e = ap (λ y. cut_toml (within in_comment) (y ∷ (g ++ w))) e ∙ ap (λ l. [] ∷ (10 ∷ []) ∷ l) (cut_gap g w blank)
 
   -- any other byte of the gap ends it too, if it is CR before a line feed, or goes on with it
@@ -33,13 +32,13 @@ module _ (x : ℕ) (g w : List ℕ) (blank : IsBlank g) where
     [],
     tt,
     cut_turned in_comment x (g ++ w) stops (λ j. cond (n j || e j) stops (goes_on in_comment))
-        ∙ ap (λ f. [] ∷ cut_first f x (λ m. cut_toml m (g ++ w))) (first_blank x (blank_byte x is n))
+        ∙ ap (λ l. [] ∷ l) (cut_blank x (g ++ w) (blank_byte x is n))
         ∙ ap (λ l. [] ∷ l) (cut_gap g w blank),
   )
   at_blank is n (t, gap, more) false e = (
     x ∷ t,
     (blank_byte x is n, gap),
-    cut_turned in_comment x (g ++ w) (goes_on in_comment) (λ j. cond (n j || e j) stops (goes_on in_comment)) ∙ ap (lengthened_toml x) more,
+    cut_turned in_comment x (g ++ w) (goes_on in_comment) (λ j. cond (n j || e j) stops (goes_on in_comment)) ∙ ap (lengthened x) more,
   )
 
 later : (x : ℕ) (g : List ℕ) → (x == 10) ≡ false → EndsLine (x ∷ g) → EndsLine g
@@ -48,7 +47,7 @@ later x g e (inr more) = more
 
 -- a gap that has a line end, or after which the text ends
 comment_goes_on : (g w : List ℕ) → IsBlank g → EndsLine g ⊎ (w ≡ []) → GoesOn g w
-unfolding cut_toml
+unfolding cut
 comment_goes_on [] w blank (inl none) = absurd none
 comment_goes_on [] w blank (inr e) = ([], tt, ap (cut_toml (within in_comment)) e ∙ ap (λ l. [] ∷ cut_toml between l) (sym e))
 comment_goes_on (x ∷ g) w blank ends =
@@ -84,7 +83,7 @@ module _ (x : ℕ) (s : List ℕ) (alone : cut_toml (within in_comment) (x ∷ s
       by false e = refl
       by true e =
           let stop : turn in_comment x (begins_line_feed s) ≡ stops = ap (λ p. cond p stops (goes_on in_comment)) e in
-          let clash : [] ∷ cut_first (first x) x (λ m. cut_toml m s) ≡ (x ∷ s) ∷ [] = sym (cut_turned in_comment x s stops stop) ∙ alone in
+          let clash : [] ∷ cut_toml between (x ∷ s) ≡ (x ∷ s) ∷ [] = sym (cut_turned in_comment x s stops stop) ∙ alone in
           absurd cc
 
   -- and so does the rest alone
@@ -110,10 +109,10 @@ comment_more : (s : List ℕ) → cut_toml (within in_comment) s ≡ s ∷ [] �
 comment_more [] alone n r t ts e = e
 comment_more (x ∷ s) alone n r t ts e =
     cut_turned in_comment x (s ++ r) (goes_on in_comment) (same_turn x s r n (byte_goes_on x s alone))
-    ∙ ap (lengthened_toml x) (comment_more s (tail_alone x s alone) (tail_differs x s n) r t ts e)
+    ∙ ap (lengthened x) (comment_more s (tail_alone x s alone) (tail_differs x s n) r t ts e)
 
-pub comment_begun : (s : List ℕ) → cut_toml between (35 ∷ s) ≡ lengthened_toml 35 (cut_toml (within in_comment) s)
-unfolding cut_toml
+pub comment_begun : (s : List ℕ) → cut_toml between (35 ∷ s) ≡ lengthened 35 (cut_toml (within in_comment) s)
+unfolding cut
 comment_begun s = refl
 
 -- what follows `#` in a comment alone
@@ -132,7 +131,7 @@ comment_before_gap s g w alone whole blank ends = by_rest (comment_goes_on g w b
       t,
       gap,
       comment_begun (s ++ (g ++ w))
-          ∙ ap (lengthened_toml 35)
+          ∙ ap (lengthened 35)
           (comment_more s (after_hash s alone)
           (tail_differs 35 s (no_return (35 ∷ s) whole)) (g ++ w) t (line_ends g ++ cut_toml between w) e),
     )

@@ -3,21 +3,19 @@ use Rattle.std.proofs.Common.{◌≡◌, ℕ, Bool, true, false, cond, ◌==◌,
 use Rattle.std.specs.Prelude.{⊤}
 use Rattle.std.proofs.lemmas.Bool.{cond_both, true≢false, eqb-true}
 use Rattle.toml_lexemes.specs.Bytes.{ends_word}
+use Rattle.text_lexemes.specs.Languages.{Turn, goes_on, ends, stops}
 use Rattle.toml_lexemes.specs.Lexemes.{StringKind, quote_mark, escapes, Inner, in_word, in_comment, opened, doubled, in_line}
-use Rattle.toml_lexemes.specs.Lexemes.{in_line_escape}
-use Rattle.toml_lexemes.specs.Lexemes.{in_lines}
-use Rattle.toml_lexemes.specs.Lexemes.{in_lines_escape, closing, closing_more, closed, closed_more, ByteTurn, goes_on}
-use Rattle.toml_lexemes.specs.Lexemes.{ends, stops, line_turn}
+use Rattle.toml_lexemes.specs.Lexemes.{in_line_escape, in_lines, in_lines_escape, closing, closing_more, closed, closed_more, line_turn}
 use Rattle.toml_lexemes.specs.Lexemes.{lines_turn, turn}
 
 -- a comment is begun by its first byte alone
-abbrev pub From : Inner → ByteTurn → Type 0
+abbrev pub From : Inner → Turn Inner → Type 0
 From i (goes_on n) = n ≡ in_comment → i ≡ in_comment
 From i ends = ⊤
 From i stops = ⊤
 
 module _ (i : Inner) where
-  by_test : (b : Bool) (t u : ByteTurn) → From i t → From i u → From i (cond b t u)
+  by_test : (b : Bool) (t u : Turn Inner) → From i t → From i u → From i (cond b t u)
   by_test b t u p q = cond_both b t u (From i) (λ e. p) (λ e. q)
 
   in_one_line : (k : StringKind) (x : ℕ) → From i (line_turn k x)
@@ -42,32 +40,32 @@ From-turn (closed_more k) x b = by_test (closed_more k) (x == quote_mark k) _ _ 
 
 -- ---- the last byte of a lexeme, alone and before other bytes
 
-abbrev comment_turn : Bool → Bool → Bool → ByteTurn
+abbrev comment_turn : Bool → Bool → Bool → Turn Inner
 comment_turn p q b = cond (p || (q && b)) stops (goes_on in_comment)
 
-last_comment : (p q b : Bool) (t : ByteTurn) → comment_turn p q b ≡ t → (t ≡ stops → ⊥) → comment_turn p q false ≡ t
+last_comment : (p q b : Bool) (t : Turn Inner) → comment_turn p q b ≡ t → (t ≡ stops → ⊥) → comment_turn p q false ≡ t
 last_comment true q b t e differs = absurd (differs (sym e))
 last_comment false true true t e differs = absurd (differs (sym e))
 last_comment false true false t e differs = e
 last_comment false false b t e differs = e
 
 -- a byte that is one of the lexeme is so too where the text ends after it
-pub last_turn : (i : Inner) (x : ℕ) (b : Bool) (t : ByteTurn) → turn i x b ≡ t → (t ≡ stops → ⊥) → turn i x false ≡ t
+pub last_turn : (i : Inner) (x : ℕ) (b : Bool) (t : Turn Inner) → turn i x b ≡ t → (t ≡ stops → ⊥) → turn i x false ≡ t
 last_turn in_comment x b t e differs = last_comment (x == 10) (x == 13) b t e differs
 last_turn i x b t e differs = e
 
-more_comment : (p q b : Bool) (t : ByteTurn) → comment_turn p q false ≡ t → (q ≡ true → b ≡ false) → comment_turn p q b ≡ t
+more_comment : (p q b : Bool) (t : Turn Inner) → comment_turn p q false ≡ t → (q ≡ true → b ≡ false) → comment_turn p q b ≡ t
 more_comment true q b t e h = e
 more_comment false true true t e h = absurd (true≢false (h refl))
 more_comment false true false t e h = e
 more_comment false false b t e h = e
 
 -- and where other bytes come after it, if it is no CR of a comment before a line feed
-pub more_turn : (i : Inner) (x : ℕ) (b : Bool) (t : ByteTurn) → turn i x false ≡ t → (i ≡ in_comment → x ≡ 13 → b ≡ false) → turn i x b ≡ t
+pub more_turn : (i : Inner) (x : ℕ) (b : Bool) (t : Turn Inner) → turn i x false ≡ t → (i ≡ in_comment → x ≡ 13 → b ≡ false) → turn i x b ≡ t
 more_turn in_comment x b t e h = more_comment (x == 10) (x == 13) b t e (λ q. h refl (eqb-true x 13 q))
 more_turn i x b t e h = e
 
 -- a CR that is a byte of a comment is not before a line feed
-pub no_line_feed : (x : ℕ) (b : Bool) (t : ByteTurn) → turn in_comment x b ≡ t → (t ≡ stops → ⊥) → x ≡ 13 → b ≡ false
+pub no_line_feed : (x : ℕ) (b : Bool) (t : Turn Inner) → turn in_comment x b ≡ t → (t ≡ stops → ⊥) → x ≡ 13 → b ≡ false
 no_line_feed x false t e differs is = refl
 no_line_feed x true t e differs is = absurd (differs (sym (subst (λ y. turn in_comment y true ≡ t) is e)))

@@ -1,7 +1,8 @@
 -- Statements do not depend on gaps, and a line end outside of brackets divides them.
 use Rattle.std.proofs.Common.{◌≡◌, ℕ, zero, suc, Bool, true, false, List, [], ◌∷◌, ◌++◌, All, refl, sym, ap, ◌∙◌, append_assoc, append-nil}
 use Rattle.std.proofs.lemmas.List.Elements.{All-head, All-tail}
-use Rattle.toml_lexemes.specs.Lexemes.{between, cut_toml}
+use Rattle.text_lexemes.specs.Languages.{between}
+use Rattle.toml_lexemes.specs.Lexemes.{cut_toml}
 use Rattle.toml_lexemes.specs.Spaced.{IsWellSpaced}
 use Rattle.toml_lexemes.proofs.Gaps.{lexemes_alone}
 use Rattle.toml_lexemes.proofs.Kept.{same_lexemes}

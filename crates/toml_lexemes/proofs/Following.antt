@@ -3,17 +3,14 @@ use Rattle.std.proofs.Common.{◌≡◌, ◌≢◌, ◌↔◌, ℕ, Bool, true, 
 use Rattle.std.proofs.Common.{subst}
 use Rattle.std.proofs.lemmas.Bool.{cond_both, true≢false, ne_eqb, or_parts, eqb-true}
 use Rattle.toml_lexemes.specs.Bytes.{is_sign, is_blank, is_quote, ends_word, head}
+use Rattle.text_lexemes.specs.Languages.{LexerMode, between, within, alone, begins, Turn, goes_on, stops, cut}
 use Rattle.toml_lexemes.specs.Lexemes.{StringKind, basic, literal, quote_mark, escapes, Inner, in_word, in_comment, opened, doubled}
-use Rattle.toml_lexemes.specs.Lexemes.{in_line}
-use Rattle.toml_lexemes.specs.Lexemes.{in_line_escape, in_lines, in_lines_escape, closing, closing_more, closed}
-use Rattle.toml_lexemes.specs.Lexemes.{closed_more, LexerMode, between}
-use Rattle.toml_lexemes.specs.Lexemes.{within, passed, alone, begins, first, ByteTurn, goes_on, stops, line_turn, lines_turn, turn}
-use Rattle.toml_lexemes.specs.Lexemes.{begins_line_feed, cut_first, cut_toml}
+use Rattle.toml_lexemes.specs.Lexemes.{in_line, in_line_escape, in_lines, in_lines_escape, closing, closing_more, closed, closed_more}
+use Rattle.toml_lexemes.specs.Lexemes.{first, line_turn, lines_turn, turn, begins_line_feed, cut_toml}
 use Rattle.toml_lexemes.specs.Spaced.{mode_first, mode_turn, mode_after, EndsBefore, EndsWithReturn, MayFollow, begins_line_end}
 use Rattle.toml_lexemes.proofs.Bytes.{or_both}
-use Rattle.toml_lexemes.proofs.Firsts.{cut_begun}
 use Rattle.toml_lexemes.proofs.Gaps.{follows_one}
-use Rattle.toml_lexemes.proofs.Kept.{cut_turned, shortened, some_cut}
+use Rattle.toml_lexemes.proofs.Kept.{cut_begun, cut_turned, shortened, some_cut}
 
 pub end_may_follow : (s : List ℕ) → MayFollow s []
 end_may_follow s = record { ended = tt; apart = λ m is. refl }
@@ -21,10 +18,10 @@ end_may_follow s = record { ended = tt; apart = λ m is. refl }
 -- ---- which bytes stop a lexeme
 
 -- the turn is no stop, or the fact holds
-abbrev IfStop : Type 0 → ByteTurn → Type 0
+abbrev IfStop : Type 0 → Turn Inner → Type 0
 IfStop P t = t ≡ stops → P
 
-by_test : (P : Type 0) (b : Bool) (t u : ByteTurn) → (b ≡ true → IfStop P t) → (b ≡ false → IfStop P u) → IfStop P (cond b t u)
+by_test : (P : Type 0) (b : Bool) (t u : Turn Inner) → (b ≡ true → IfStop P t) → (b ≡ false → IfStop P u) → IfStop P (cond b t u)
 by_test P b t u f g = cond_both b t u (IfStop P) f g
 
 -- in a string of one line only a line feed stops
@@ -38,7 +35,7 @@ lines_stop : (k : StringKind) (x : ℕ) → IfStop ⊥ (lines_turn k x)
 lines_stop k x = by_test _ (x == quote_mark k) _ _ (λ f h. cc) (λ f. by_test _ (escapes k x) _ _ (λ g h. cc) (λ g h. cc))
 
 -- a byte that is no quote stops after two quotes, and after a string of several lines
-no_mark : (k : StringKind) (t : ByteTurn) (y : ℕ) → is_quote y ≡ false → cond (y == quote_mark k) t stops ≡ stops
+no_mark : (k : StringKind) (t : Turn Inner) (y : ℕ) → is_quote y ≡ false → cond (y == quote_mark k) t stops ≡ stops
 no_mark basic t y q = ap (λ b. cond b t stops) (or_parts (y == 34) (y == 39) q).0
 no_mark literal t y q = ap (λ b. cond b t stops) (or_parts (y == 34) (y == 39) q).1
 
@@ -98,7 +95,7 @@ same_stop i x b c n e = e
 -- ---- the bytes after a lexeme
 
 module _ (x : ℕ) (xs : List ℕ) where
-  ends_at_line_feed : (m : LexerMode) (rest : List ℕ) → EndsBefore m (x ∷ xs) → EndsBefore m (10 ∷ rest)
+  ends_at_line_feed : (m : LexerMode Inner) (rest : List ℕ) → EndsBefore m (x ∷ xs) → EndsBefore m (10 ∷ rest)
   ends_at_line_feed between rest e = tt
   ends_at_line_feed (within i) rest e = stop_at_line_feed i x (begins_line_feed xs) (begins_line_feed rest) e
 
@@ -106,7 +103,7 @@ module _ (x : ℕ) (xs : List ℕ) where
   line_feed_may_follow s rest differs h =
       record { ended = ends_at_line_feed (mode_after between s) rest h.ended; apart = λ m is. absurd (differs is) }
 
-  ends_at_blank : (m : LexerMode) (y : ℕ) (ys : List ℕ) → begins_line_end (x ∷ xs) ≡ false → ends_word y ≡ true → is_quote y ≡ false
+  ends_at_blank : (m : LexerMode Inner) (y : ℕ) (ys : List ℕ) → begins_line_end (x ∷ xs) ≡ false → ends_word y ≡ true → is_quote y ≡ false
       → EndsBefore m (x ∷ xs) → EndsBefore m (y ∷ ys)
   ends_at_blank between y ys n w q e = tt
   ends_at_blank (within i) y ys n w q e = stop_at_blank i x y (begins_line_feed xs) (begins_line_feed ys) n w q e
@@ -119,7 +116,7 @@ module _ (x : ℕ) (xs : List ℕ) where
         apart = λ m is. absurd (true≢false (sym (comment_stop _ (subst (λ m. EndsBefore m (x ∷ xs)) m h.ended)) ∙ n));
       }
 
-  ends_at_first : (m : LexerMode) (ys : List ℕ) → x ≢ 13 → EndsBefore m (x ∷ xs) → EndsBefore m (x ∷ ys)
+  ends_at_first : (m : LexerMode Inner) (ys : List ℕ) → x ≢ 13 → EndsBefore m (x ∷ xs) → EndsBefore m (x ∷ ys)
   ends_at_first between ys n e = tt
   ends_at_first (within i) ys n e = same_stop i x (begins_line_feed xs) (begins_line_feed ys) n e
 
@@ -134,7 +131,7 @@ module _ (i : Inner) (stays : (x : ℕ) (b : Bool) → (turn i x b ≡ stops) �
       → (cut_toml (within i) s ≡ s ∷ [] → mode_after (within i) s ≡ within i) → cut_toml (within i) (x ∷ s) ≡ (x ∷ s) ∷ []
       → mode_after (within i) (x ∷ s) ≡ within i
   one_byte x s (inl e) more h =
-      let clash : [] ∷ cut_first (first x) x (λ m. cut_toml m s) ≡ (x ∷ s) ∷ [] = sym (cut_turned i x s stops e) ∙ h in
+      let clash : [] ∷ cut_toml between (x ∷ s) ≡ (x ∷ s) ∷ [] = sym (cut_turned i x s stops e) ∙ h in
       absurd cc
   one_byte x s (inr e) more h =
       ap (λ t. mode_after (mode_turn t) s) e ∙ more (shortened x s (cut_toml (within i) s) (some_cut i s)
@@ -147,11 +144,19 @@ module _ (i : Inner) (stays : (x : ℕ) (b : Bool) → (turn i x b ≡ stops) �
   mode_left : (x : ℕ) (s : List ℕ) → first x ≡ begins i → cut_toml between (x ∷ s) ≡ (x ∷ s) ∷ [] → mode_after between (x ∷ s) ≡ within i
   mode_left x s e h =
       ap (λ f. mode_after (mode_first f) s) e ∙ stays_in s (shortened x s (cut_toml (within i) s) (some_cut i s)
-      (sym (cut_begun x s (begins i) e) ∙ h))
+      (cut_begun x s (begins i) e h))
 
 either : (p : Bool) (i : Inner) → (cond p stops (goes_on i) ≡ stops) ⊎ (cond p stops (goes_on i) ≡ goes_on i)
 either true i = inl refl
 either false i = inr refl
+
+-- a byte of a word is no blank
+pub word_blank : (x : ℕ) → ends_word x ≡ false → is_blank x ≡ false
+word_blank x h =
+    let a = or_parts (is_sign x || is_blank x || is_quote x || (x == 10)) (x == 35) h in
+    let b = or_parts (is_sign x || is_blank x || is_quote x) (x == 10) a.0 in
+    let c = or_parts (is_sign x || is_blank x) (is_quote x) b.0 in
+    (or_parts (is_sign x) (is_blank x) c.0).1
 
 pub first_word : (x : ℕ) → ends_word x ≡ false → first x ≡ begins in_word
 first_word x h =
@@ -160,15 +165,15 @@ first_word x h =
     let c = or_parts (is_sign x || is_blank x) (is_quote x) b.0 in
     let d = or_parts (is_sign x) (is_blank x) c.0 in
     let q = or_parts (x == 34) (x == 39) c.1 in
-    λ j. cond (d.1 j) passed (cond (d.0 j || b.1 j) alone (cond (a.1 j) (begins in_comment)
-    (cond (q.0 j) (begins (opened basic)) (cond (q.1 j) (begins (opened literal)) (begins in_word)))))
+    λ j. cond (d.0 j || b.1 j) alone (cond (a.1 j) (begins in_comment)
+    (cond (q.0 j) (begins (opened basic)) (cond (q.1 j) (begins (opened literal)) (begins in_word))))
 
 word_stop : (p : Bool) → cond p stops (goes_on in_word) ≡ stops → p ≡ true
 word_stop true e = refl
 word_stop false e = cc
 
 cut-nil : cut_toml between [] ≡ []
-unfolding cut_toml
+unfolding cut
 cut-nil = refl
 
 no_lexeme : cut_toml between [] ≡ [] ∷ [] → ⊥

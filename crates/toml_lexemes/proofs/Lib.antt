@@ -1,11 +1,8 @@
 mod Bytes
 mod Turns
-mod Places
-mod Firsts
 mod CommentTurns
 pub mod Gaps
 pub mod Kept
-mod Blanks
 pub mod Following
 pub mod Joined
 pub mod Words

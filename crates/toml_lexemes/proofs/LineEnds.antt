@@ -4,8 +4,10 @@ use Rattle.std.proofs.Common.{inr}
 use Rattle.std.proofs.lemmas.Bool.{cond_both, eqb-true, true≢false}
 use Rattle.prettyless_model.specs.Shows.{EndsLine, IsBlank}
 use Rattle.prettyless_model.specs.Spelling.{is_blank_byte}
+use Rattle.text_lexemes.proofs.Cuts as cuts
 use Rattle.toml_lexemes.specs.Bytes.{is_blank}
-use Rattle.toml_lexemes.specs.Lexemes.{between, passed, first, cut_first, cut_toml}
+use Rattle.text_lexemes.specs.Languages.{between, cut}
+use Rattle.toml_lexemes.specs.Lexemes.{cut_toml, toml}
 use Rattle.toml_lexemes.specs.Statements.{Collected, line_ended_at, line_ended, with_lexeme, with_lexemes, statements_of}
 
 -- the line ends among the bytes
@@ -33,22 +35,18 @@ by_bytes false false r t e n = absurd (true≢false (sym e ∙ n))
 pub blank_byte : (x : ℕ) → is_blank_byte x ≡ true → (x == 10) ≡ false → is_blank x ≡ true
 blank_byte x e n = by_bytes (x == 32) (x == 13) (x == 10) (x == 9) e n
 
-pub first_blank : (x : ℕ) → is_blank x ≡ true → first x ≡ passed
-first_blank x e = rw e
-
 -- ---- lexemes
 
 pub cut-nil : cut_toml between [] ≡ []
-unfolding cut_toml
+unfolding cut
 cut-nil = refl
 
 pub cut_line_feed : (x : ℕ) (w : List ℕ) → x ≡ 10 → cut_toml between (x ∷ w) ≡ (10 ∷ []) ∷ cut_toml between w
-unfolding cut_toml
+unfolding cut
 cut_line_feed x w e = ap (λ y. cut_toml between (y ∷ w)) e
 
 pub cut_blank : (x : ℕ) (w : List ℕ) → is_blank x ≡ true → cut_toml between (x ∷ w) ≡ cut_toml between w
-unfolding cut_toml
-cut_blank x w e = ap (λ f. cut_first f x (λ m. cut_toml m w)) (first_blank x e)
+cut_blank x w e = cuts.cut_blank toml x w e
 
 -- the lexemes of a gap and what is after it
 pub cut_gap : (g w : List ℕ) → IsBlank g → cut_toml between (g ++ w) ≡ line_ends g ++ cut_toml between w

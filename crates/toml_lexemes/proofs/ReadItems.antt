@@ -7,7 +7,8 @@ use Rattle.prettyless_model.specs.Shows.{Shown, Gap, Mark, Late, Place, Before, 
 use Rattle.prettyless_model.specs.Shows.{AreShown}
 use Rattle.prettyless_model.proofs.Gaps.{some_in, ends_or_not}
 use Rattle.prettyless_model.proofs.Implied.{end_blank}
-use Rattle.toml_lexemes.specs.Lexemes.{between, cut_toml}
+use Rattle.text_lexemes.specs.Languages.{between, cut}
+use Rattle.toml_lexemes.specs.Lexemes.{cut_toml}
 use Rattle.toml_lexemes.specs.Statements.{a_closing, role, Collected, none_collected, line_ended_at, line_ended, with_held_comma}
 use Rattle.toml_lexemes.specs.Statements.{with_role, with_lexeme, with_lexemes, statements_of, statements}
 use Rattle.toml_lexemes.specs.Shown.{IsWholeLexeme, least_between, Stage, first_stage, least_at, LinesAgree, AgreesWithMark, MayStand}
@@ -89,7 +90,7 @@ last_read c d (x ∷ s) g w (whole, is) blank room =
     ∙ with_both d (line_ends g) (cut_toml between w)
 
 cut_comma : (w : List ℕ) → cut_toml between (44 ∷ w) ≡ (44 ∷ []) ∷ cut_toml between w
-unfolding cut_toml
+unfolding cut
 cut_comma w = refl
 
 -- ---- items

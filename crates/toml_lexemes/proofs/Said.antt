@@ -6,7 +6,8 @@ use Rattle.std.proofs.lemmas.Grind.{flat_map-append}
 use Rattle.std.proofs.lemmas.List.Elements.{filter-append, All-head, All-tail}
 use Rattle.std.specs.Prelude.{⊤}
 use Rattle.toml_lexemes.specs.Bytes.{ends_word, head}
-use Rattle.toml_lexemes.specs.Lexemes.{between, lengthened_toml, cut_toml}
+use Rattle.text_lexemes.specs.Languages.{between, lengthened}
+use Rattle.toml_lexemes.specs.Lexemes.{cut_toml}
 use Rattle.toml_lexemes.specs.Statements.{Role, a_comma, a_comment, a_line_end, an_opening, a_closing, a_word, any_other, role}
 use Rattle.toml_lexemes.specs.Statements.{role_of, ends_part, word_parts, trimmed, followed_by_comma, Collected, none_collected}
 use Rattle.toml_lexemes.specs.Statements.{whole_line, with_statement, statements_of}
@@ -105,11 +106,11 @@ parts_are_no_commas : (s : List ℕ) → AreLetters s → HasNoCommas (word_part
 parts_are_no_commas [] h = tt
 parts_are_no_commas (x ∷ s) (here, later) = by ((x == 46) || ends_part s) (parts_are_no_commas s later)
   where
-    longer : (ss : List (List ℕ)) → HasNoCommas ss → HasNoCommas (lengthened_toml x ss)
+    longer : (ss : List (List ℕ)) → HasNoCommas ss → HasNoCommas (lengthened x ss)
     longer [] h = (letter_is_no_comma x here, tt)
     longer (t ∷ ts) h = (letter_is_no_comma x here, h.1)
 
-    by : (b : Bool) → HasNoCommas (word_parts s) → HasNoCommas (cond b ((x ∷ []) ∷ word_parts s) (lengthened_toml x (word_parts s)))
+    by : (b : Bool) → HasNoCommas (word_parts s) → HasNoCommas (cond b ((x ∷ []) ∷ word_parts s) (lengthened x (word_parts s)))
     by true h = (letter_is_no_comma x here, h)
     by false h = longer (word_parts s) h
 

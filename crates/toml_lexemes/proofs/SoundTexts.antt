@@ -4,7 +4,8 @@ use Rattle.std.proofs.Common.{inr}
 use Rattle.std.proofs.lemmas.Bool.{eqb-true, true≢false, or_cases, and_parts}
 use Rattle.std.proofs.lemmas.List.Elements.{All-head, All-tail}
 use Rattle.toml_lexemes.specs.Bytes.{is_sign, is_blank, is_quote, ends_word, head}
-use Rattle.toml_lexemes.specs.Lexemes.{between, begins_line_feed, cut_toml}
+use Rattle.text_lexemes.specs.Languages.{between, cut}
+use Rattle.toml_lexemes.specs.Lexemes.{begins_line_feed, cut_toml}
 use Rattle.toml_lexemes.specs.Spaced.{MayFollow, IsWellSpaced, begins_line_end}
 use Rattle.toml_lexemes.proofs.Following.{comments_are_ended}
 use Rattle.toml_lexemes.proofs.Gaps.{IsWellSpaced-lexemes, lexemes_alone}
@@ -41,7 +42,7 @@ alone_sound a_word s ss h k = h
 alone_sound any_other s ss h k = h
 
 line_feed_alone : (s : List ℕ) → cut_toml between (10 ∷ s) ≡ (10 ∷ s) ∷ [] → 10 ∷ s ≡ 10 ∷ []
-unfolding cut_toml
+unfolding cut
 line_feed_alone s lexeme = let one : (10 ∷ []) ∷ cut_toml between s ≡ (10 ∷ s) ∷ [] = lexeme in cc
 
 -- a sign has a role that asks for a whole lexeme

@@ -3,14 +3,12 @@ use Rattle.std.proofs.Common.{◌≡◌, ℕ, Bool, true, false, cond, ◌==◌,
 use Rattle.std.specs.Prelude.{⊤}
 use Rattle.std.proofs.lemmas.Bool.{cond_both, or_parts, eqb-true, true≢false}
 use Rattle.toml_lexemes.specs.Bytes.{is_quote}
+use Rattle.text_lexemes.specs.Languages.{LexerMode, between, within, begins, Turn, goes_on, ends, stops}
 use Rattle.toml_lexemes.specs.Lexemes.{StringKind, basic, literal, quote_mark, escapes, Inner, in_word, in_comment, opened, doubled}
-use Rattle.toml_lexemes.specs.Lexemes.{in_line}
-use Rattle.toml_lexemes.specs.Lexemes.{in_line_escape, in_lines, in_lines_escape, closing, closing_more, closed}
-use Rattle.toml_lexemes.specs.Lexemes.{closed_more, LexerMode, between}
-use Rattle.toml_lexemes.specs.Lexemes.{within, begins, first, ByteTurn, goes_on, ends, stops, line_turn, lines_turn, turn, begins_line_feed}
-use Rattle.toml_lexemes.specs.Lexemes.{cut_first, cut_toml}
+use Rattle.toml_lexemes.specs.Lexemes.{in_line, in_line_escape, in_lines, in_lines_escape, closing, closing_more, closed, closed_more}
+use Rattle.toml_lexemes.specs.Lexemes.{first, line_turn, lines_turn, turn, begins_line_feed, cut_toml}
 use Rattle.toml_lexemes.specs.Spaced.{mode_first, mode_turn, mode_after, EndsBefore, MayFollow}
-use Rattle.toml_lexemes.proofs.Kept.{cut_turned, shortened, some_cut}
+use Rattle.toml_lexemes.proofs.Kept.{cut_begun, cut_turned, shortened, some_cut}
 
 -- ---- the modes in a string
 
@@ -21,11 +19,11 @@ InString in_comment = ⊥
 InString i = ⊤
 
 -- a turn that does not leave the string for a place in another lexeme
-abbrev Stays : ByteTurn → Type 0
+abbrev Stays : Turn Inner → Type 0
 Stays (goes_on i) = InString i
 Stays t = ⊤
 
-by_test : (b : Bool) (t u : ByteTurn) → Stays t → Stays u → Stays (cond b t u)
+by_test : (b : Bool) (t u : Turn Inner) → Stays t → Stays u → Stays (cond b t u)
 by_test b t u p q = cond_both b t u Stays (λ e. p) (λ e. q)
 
 stays_in_line : (k : StringKind) (x : ℕ) → Stays (line_turn k x)
@@ -49,7 +47,7 @@ Stays-turn (closed k) x b h = by_test (x == quote_mark k) _ _ tt tt
 Stays-turn (closed_more k) x b h = by_test (x == quote_mark k) _ _ tt tt
 
 -- after a string, or in one
-abbrev OfString : LexerMode → Type 0
+abbrev OfString : LexerMode Inner → Type 0
 OfString between = ⊤
 OfString (within i) = InString i
 
@@ -60,7 +58,7 @@ module _ (i : Inner) (x : ℕ) (s : List ℕ) (lexeme : cut_toml (within i) (x �
 
   no_stop : turn i x (begins_line_feed s) ≡ stops → ⊥
   no_stop e =
-      let clash : [] ∷ cut_first (first x) x (λ m. cut_toml m s) ≡ (x ∷ s) ∷ [] = sym (cut_turned i x s stops e) ∙ lexeme in cc
+      let clash : [] ∷ cut_toml between (x ∷ s) ≡ (x ∷ s) ∷ [] = sym (cut_turned i x s stops e) ∙ lexeme in cc
 
   rest_alone : (n : Inner) → turn i x (begins_line_feed s) ≡ goes_on n → cut_toml (within n) s ≡ s ∷ []
   rest_alone n e = shortened x s (cut_toml (within n) s) (some_cut n s) (sym (cut_turned i x s (goes_on n) e) ∙ lexeme)
@@ -70,7 +68,7 @@ string_mode : (s : List ℕ) (i : Inner) → InString i → cut_toml (within i) 
 string_mode [] i h lexeme = h
 string_mode (x ∷ s) i h lexeme = by_turn (turn i x (begins_line_feed s)) refl (λ n. string_mode s n)
   where
-    by_turn : (t : ByteTurn) → turn i x (begins_line_feed s) ≡ t
+    by_turn : (t : Turn Inner) → turn i x (begins_line_feed s) ≡ t
         → ((n : Inner) → InString n → cut_toml (within n) s ≡ s ∷ [] → OfString (mode_after (within n) s))
         → OfString (mode_after (mode_turn t) s)
     by_turn (goes_on n) e more = more n (subst Stays e (Stays-turn i x (begins_line_feed s) h)) (rest_alone i x s lexeme n e)
@@ -80,7 +78,7 @@ string_mode (x ∷ s) i h lexeme = by_turn (turn i x (begins_line_feed s)) refl 
 -- ---- what stops a string
 
 -- a byte that is no quote stops after two quotes, and after a string of several lines
-no_mark : (k : StringKind) (t : ByteTurn) (y : ℕ) → is_quote y ≡ false → cond (y == quote_mark k) t stops ≡ stops
+no_mark : (k : StringKind) (t : Turn Inner) (y : ℕ) → is_quote y ≡ false → cond (y == quote_mark k) t stops ≡ stops
 no_mark basic t y q = ap (λ b. cond b t stops) (or_parts (y == 34) (y == 39) q).0
 no_mark literal t y q = ap (λ b. cond b t stops) (or_parts (y == 34) (y == 39) q).1
 
@@ -104,11 +102,11 @@ stop_string (closing_more literal) y b c h q e = cc
 stop_string (closed k) y b c h q e = no_mark k _ y q
 stop_string (closed_more k) y b c h q e = no_mark k _ y q
 
-ends_at_byte : (m : LexerMode) (y : ℕ) (ys : List ℕ) → OfString m → is_quote y ≡ false → EndsBefore m (32 ∷ []) → EndsBefore m (y ∷ ys)
+ends_at_byte : (m : LexerMode Inner) (y : ℕ) (ys : List ℕ) → OfString m → is_quote y ≡ false → EndsBefore m (32 ∷ []) → EndsBefore m (y ∷ ys)
 ends_at_byte between y ys h q e = tt
 ends_at_byte (within i) y ys h q e = stop_string i y false (begins_line_feed ys) h q e
 
-no_comment : (m : LexerMode) → OfString m → m ≡ within in_comment → ⊥
+no_comment : (m : LexerMode Inner) → OfString m → m ≡ within in_comment → ⊥
 no_comment m h e = subst OfString e h
 
 after_string : (s : List ℕ) (y : ℕ) (ys : List ℕ) → OfString (mode_after between s) → is_quote y ≡ false → MayFollow s (32 ∷ [])
@@ -126,11 +124,9 @@ quote_first x true c e f h = (basic, subst (λ y. first y ≡ begins (opened bas
 quote_first x false true e f h = (literal, subst (λ y. first y ≡ begins (opened literal)) (sym (eqb-true x 39 f)) refl)
 quote_first x false false e f h = absurd (true≢false (sym h))
 
-pub cut_begun : (x : ℕ) (s : List ℕ) (i : Inner) → first x ≡ begins i → cut_toml between (x ∷ s) ≡ (x ∷ s) ∷ [] →
-    cut_toml (within i) s ≡ s ∷ []
-unfolding cut_toml
-cut_begun x s i e lexeme =
-    shortened x s (cut_toml (within i) s) (some_cut i s) (sym (ap (λ f. cut_first f x (λ m. cut_toml m s)) e) ∙ lexeme)
+begun_alone : (x : ℕ) (s : List ℕ) (i : Inner) → first x ≡ begins i → cut_toml between (x ∷ s) ≡ (x ∷ s) ∷ []
+    → cut_toml (within i) s ≡ s ∷ []
+begun_alone x s i e lexeme = shortened x s (cut_toml (within i) s) (some_cut i s) (cut_begun x s (begins i) e lexeme)
 
 -- after a string that a space may follow, any byte may stand that is no quote
 pub string_followed : (x : ℕ) (s : List ℕ) (y : ℕ) (ys : List ℕ) → is_quote x ≡ true → cut_toml between (x ∷ s) ≡ (x ∷ s) ∷ []
@@ -140,5 +136,5 @@ string_followed x s y ys quote lexeme q follows = by_kind (quote_first x (x == 3
     by_kind : (k : StringKind) × (first x ≡ begins (opened k)) → MayFollow (x ∷ s) (y ∷ ys)
     by_kind (k, e) =
         after_string (x ∷ s) y ys
-        (subst (λ m. OfString (mode_after m s)) (sym (ap mode_first e)) (string_mode s (opened k) tt (cut_begun x s (opened k) e lexeme)))
+        (subst (λ m. OfString (mode_after m s)) (sym (ap mode_first e)) (string_mode s (opened k) tt (begun_alone x s (opened k) e lexeme)))
         q follows

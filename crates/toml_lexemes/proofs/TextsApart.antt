@@ -1,20 +1,20 @@
 -- A text that is a lexeme, a gap and what is after it, cut into lexemes.
-use Rattle.std.proofs.Common.{◌≡◌, ℕ, Bool, true, false, cond, ◌==◌, ◌||◌, List, [], ◌∷◌, ◌++◌, length, length-append, refl, sym, ap, ◌∙◌}
+use Rattle.std.proofs.Common.{◌≡◌, ℕ, Bool, true, false, cond, ◌==◌, ◌||◌, List, [], ◌∷◌, ◌++◌, refl, sym, ap, ◌∙◌}
 use Rattle.std.proofs.Common.{subst, ◌⊎◌, inl, inr, arith}
-use Rattle.std.proofs.lemmas.Bool.{eqb-true, or_parts, or_cases}
-use Rattle.std.proofs.lemmas.List.Elements.{All-cons}
+use Rattle.std.proofs.lemmas.Bool.{true≢false, eqb-true, or_parts, or_cases}
 use Rattle.prettyless_model.specs.Shows.{Least, Nothing, Spacing, LineEnd, EndsLine, IsBlank, Has}
 use Rattle.prettyless_model.specs.Spelling.{is_blank_byte}
 use Rattle.toml_lexemes.specs.Bytes.{is_sign, is_blank, is_quote, ends_word, head, ends_with_dot}
-use Rattle.toml_lexemes.specs.Lexemes.{between, passed, alone, first, begins, opened, basic, literal, in_comment, in_word, cut_first}
-use Rattle.toml_lexemes.specs.Lexemes.{cut_toml}
-use Rattle.toml_lexemes.specs.Spaced.{IsTomlGap, IsSpacedToml, MayFollow}
+use Rattle.text_lexemes.specs.Languages.{between, alone, begins}
+use Rattle.toml_lexemes.specs.Lexemes.{first, opened, basic, literal, in_comment, in_word, cut_toml, toml}
+use Rattle.toml_lexemes.specs.Spaced.{IsTomlGap, MayFollow}
 use Rattle.toml_lexemes.proofs.Following.{end_may_follow, words_are_ended, signs_are_ended}
-use Rattle.toml_lexemes.proofs.Gaps.{IsSpaced-lexemes, IsWellSpaced-lexemes, lexemes_alone}
-use Rattle.toml_lexemes.proofs.Kept.{same_lexemes}
+use Rattle.toml_lexemes.proofs.Gaps.{follows_lexeme}
+use Rattle.toml_lexemes.proofs.Kept as kept
+use Rattle.text_lexemes.proofs.Cuts.{cut_lexeme}
 use Rattle.toml_lexemes.specs.Statements.{role, Collected, with_lexeme, with_lexemes}
 use Rattle.toml_lexemes.specs.Shown.{EndsWell, IsWholeLexeme, least_after_word, least_after, least_between}
-use Rattle.toml_lexemes.proofs.LineEnds.{line_ends, gap_byte, cut_blank, cut_gap}
+use Rattle.toml_lexemes.proofs.LineEnds.{line_ends, gap_byte, cut_gap}
 use Rattle.toml_lexemes.proofs.CommentGaps.{comment_before_gap}
 use Rattle.toml_lexemes.proofs.Strings.{string_followed}
 use Rattle.toml_lexemes.proofs.Trimmed.{trimmed_before_gap}
@@ -30,15 +30,8 @@ pub data Beginning (x : ℕ) : Type 0 where
   a_quote : is_quote x ≡ true → Beginning x
   a_letter : ends_word x ≡ false → Beginning x
 
--- no lexeme is longer than the text
-too_long : (x : ℕ) (s : List ℕ) → cut_toml between s ≡ (x ∷ s) ∷ [] → ⊥
-too_long x s e = go (subst (IsSpacedToml s) e (IsSpaced-lexemes s))
-  where
-    go : IsSpacedToml s ((x ∷ s) ∷ []) → ⊥
-    go (g, rest, gap, is, h) = omega (arith, ap length is, length-append g ((x ∷ s) ++ rest), length-append (x ∷ s) rest)
-
 pub no_blank : (x : ℕ) (s : List ℕ) → cut_toml between (x ∷ s) ≡ (x ∷ s) ∷ [] → is_blank x ≡ true → ⊥
-no_blank x s lexeme e = too_long x s (sym (cut_blank x s e) ∙ lexeme)
+no_blank x s lexeme e = true≢false (sym e ∙ kept.no_blank x s lexeme)
 
 no_line_end : (x : ℕ) (s : List ℕ) → EndsWell (role (x ∷ s)) (x ∷ s) → x ≡ 10 → ⊥
 no_line_end x s h e = subst (λ y. EndsWell (role (y ∷ s)) (x ∷ s)) e h
@@ -86,18 +79,14 @@ module _ (w : List ℕ) where
 -- ---- a lexeme before what may follow it
 
 lexeme_first : (s rest : List ℕ) → cut_toml between s ≡ s ∷ [] → MayFollow s rest → cut_toml between (s ++ rest) ≡ s ∷ cut_toml between rest
-lexeme_first s rest lexeme follows =
-    same_lexemes (s ++ rest) (s ∷ cut_toml between rest)
-    (All-cons (λ t. cut_toml between t ≡ t ∷ []) s (cut_toml between rest) lexeme (lexemes_alone rest))
-    ([], rest, tt, refl, follows, IsWellSpaced-lexemes rest)
+lexeme_first s rest lexeme follows = cut_lexeme toml s rest (follows_lexeme s rest lexeme follows)
 
 pub sign_alone : (x : ℕ) (s : List ℕ) → is_sign x ≡ true → is_blank x ≡ false → cut_toml between (x ∷ s) ≡ (x ∷ s) ∷ [] → s ≡ []
-unfolding cut_toml
 sign_alone x s sign blank lexeme =
-    let f : first x ≡ alone = λ j. cond (blank j) passed (cond (sign j || (x == 10)) alone
+    let f : first x ≡ alone = λ j. cond (sign j || (x == 10)) alone
     (cond (x == 35) (begins in_comment) (cond (x == 34) (begins (opened basic))
-    (cond (x == 39) (begins (opened literal)) (begins in_word))))) in
-    let one : (x ∷ []) ∷ cut_toml between s ≡ (x ∷ s) ∷ [] = sym (ap (λ k. cut_first k x (λ m. cut_toml m s)) f) ∙ lexeme in
+    (cond (x == 39) (begins (opened literal)) (begins in_word)))) in
+    let one : (x ∷ []) ∷ cut_toml between s ≡ (x ∷ s) ∷ [] = kept.cut_begun x s alone f lexeme in
     cc
 
 -- ---- a lexeme, a gap and what is after it

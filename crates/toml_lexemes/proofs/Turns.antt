@@ -2,29 +2,28 @@
 use Rattle.std.proofs.Common.{◌≡◌, ℕ, ◌<◌, Bool, true, false, cond, ◌==◌, ◌&&◌, ◌||◌, refl, sym, ◌∙◌, arith}
 use Rattle.std.proofs.lemmas.Bool.{cond_both, false≢true, and_parts}
 use Rattle.toml_lexemes.specs.Bytes.{ends_word}
+use Rattle.text_lexemes.specs.Languages.{Turn, goes_on, ends, stops}
 use Rattle.toml_lexemes.specs.Lexemes.{StringKind, basic, quote_mark, escapes, Inner, in_word, in_comment, opened, doubled, in_line}
-use Rattle.toml_lexemes.specs.Lexemes.{in_line_escape}
-use Rattle.toml_lexemes.specs.Lexemes.{in_lines, in_lines_escape, closing, closing_more, closed, closed_more, ByteTurn}
-use Rattle.toml_lexemes.specs.Lexemes.{goes_on, ends, stops}
-use Rattle.toml_lexemes.specs.Lexemes.{line_turn, lines_turn, turn}
+use Rattle.toml_lexemes.specs.Lexemes.{in_line_escape, in_lines, in_lines_escape, closing, closing_more, closed, closed_more, line_turn}
+use Rattle.toml_lexemes.specs.Lexemes.{lines_turn, turn}
 use Rattle.toml_lexemes.specs.Modes.{is_after_quote}
 use Rattle.toml_lexemes.proofs.Bytes.{or_both, small, ends_ascii, mark_ascii}
 
 -- what a turn says of the byte x, in a mode
-abbrev pub Tied : Inner → ℕ → ByteTurn → Type 0
+abbrev pub Tied : Inner → ℕ → Turn Inner → Type 0
 Tied i x (goes_on n) = is_after_quote n ≡ true → x < 128
 Tied i x ends = x < 128
 Tied i x stops = is_after_quote i ≡ false → x < 128
 
 module _ (i : Inner) (x : ℕ) where
   -- a test by which a turn is chosen
-  by_test : (b : Bool) (t u : ByteTurn) → (b ≡ true → Tied i x t) → Tied i x u → Tied i x (cond b t u)
+  by_test : (b : Bool) (t u : Turn Inner) → (b ≡ true → Tied i x t) → Tied i x u → Tied i x (cond b t u)
   by_test b t u f g = cond_both b t u (Tied i x) f (λ e. g)
 
   goes : (n : Inner) → is_after_quote n ≡ false → Tied i x (goes_on n)
   goes n e h = absurd (false≢true (sym e ∙ h))
 
-  by_mark : (k : StringKind) (n : Inner) (u : ByteTurn) → Tied i x u → Tied i x (cond (x == quote_mark k) (goes_on n) u)
+  by_mark : (k : StringKind) (n : Inner) (u : Turn Inner) → Tied i x u → Tied i x (cond (x == quote_mark k) (goes_on n) u)
   by_mark k n u g = by_test (x == quote_mark k) (goes_on n) u (λ e h. mark_ascii k x e) g
 
   in_one_line : (k : StringKind) → Tied i x (line_turn k x)

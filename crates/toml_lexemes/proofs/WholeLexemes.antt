@@ -3,7 +3,8 @@ use Rattle.std.proofs.Common.{◌≡◌, ℕ, Bool, true, false, cond, ◌==◌,
 use Rattle.std.proofs.Common.{inr}
 use Rattle.std.proofs.lemmas.Bool.{eqb-true, true≢false, or_parts, or_cases}
 use Rattle.toml_lexemes.specs.Bytes.{is_sign, is_blank, is_quote, ends_word, head}
-use Rattle.toml_lexemes.specs.Lexemes.{in_comment, between, within, goes_on, stops, begins_line_feed, lengthened_toml, cut_toml}
+use Rattle.text_lexemes.specs.Languages.{between, within, goes_on, stops, lengthened, cut}
+use Rattle.toml_lexemes.specs.Lexemes.{in_comment, begins_line_feed, cut_toml}
 use Rattle.toml_lexemes.specs.Spaced.{MayFollow}
 use Rattle.toml_lexemes.proofs.Following.{words_are_ended, signs_are_ended}
 use Rattle.toml_lexemes.proofs.Kept.{cut_turned}
@@ -28,7 +29,7 @@ by_sign P p q r s t u x e =
     or_either p q f g h = elim (or_cases p q h) [ inl e ↦ f e | inr e ↦ g e ]
 
 pub sign_is_whole : (x : ℕ) → is_sign x ≡ true → IsWholeLexeme (x ∷ [])
-unfolding cut_toml
+unfolding cut
 sign_is_whole =
     by_sign (λ x. IsWholeLexeme (x ∷ [])) (record { alone = refl; ends = signs_are_ended 91 (32 ∷ []) refl })
     (record { alone = refl; ends = signs_are_ended 93 (32 ∷ []) refl }) (record { alone = refl; ends = signs_are_ended 123 (32 ∷ []) refl })
@@ -84,7 +85,7 @@ comment_byte false false b e = refl
 
 module _ (x : ℕ) (no : (x == 10) ≡ false) where
   one_alone : (b : Bool) → cut_toml (within in_comment) (cond b [] (x ∷ [])) ≡ cond b [] (x ∷ []) ∷ []
-  unfolding cut_toml
+  unfolding cut
   one_alone true = refl
   one_alone false = cut_turned in_comment x [] (goes_on in_comment) (comment_byte (x == 10) (x == 13) false no)
 
@@ -95,7 +96,7 @@ module _ (x : ℕ) (no : (x == 10) ≡ false) where
       cut_turned in_comment x (y ∷ ys) (goes_on in_comment)
       ((λ j. cond ((x == 10) || ((x == 13) && no_line_feed y ys e j)) stops (goes_on in_comment))
       ∙ comment_byte (x == 10) (x == 13) false no)
-      ∙ ap (lengthened_toml x) e
+      ∙ ap (lengthened x) e
 
 trimmed_alone : (s : List ℕ) → cut_toml (within in_comment) s ≡ s ∷ [] → cut_toml (within in_comment) (trimmed s) ≡ trimmed s ∷ []
 trimmed_alone [] e = e
@@ -113,12 +114,12 @@ trimmed_comment : (s : List ℕ) → cut_toml between (35 ∷ s) ≡ (35 ∷ s) 
 trimmed_comment s lexeme =
     subst IsWholeLexeme (sym (trimmed_begins s))
     (record {
-      alone = comment_begun (trimmed s) ∙ ap (lengthened_toml 35) (trimmed_alone s (after_hash s lexeme));
+      alone = comment_begun (trimmed s) ∙ ap (lengthened 35) (trimmed_alone s (after_hash s lexeme));
       ends = trimmed_begins (trimmed s) ∙ ap (λ l. 35 ∷ l) (trimmed_twice s);
     })
 
 pub no_lexeme : cut_toml between [] ≡ [] ∷ [] → ⊥
-unfolding cut_toml
+unfolding cut
 no_lexeme e = cc
 
 -- a comment without the blanks at its end is one

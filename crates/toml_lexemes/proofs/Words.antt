@@ -3,12 +3,12 @@ use Rattle.std.proofs.Common.{◌≡◌, ℕ, suc, Bool, true, false, cond, ◌=
 use Rattle.std.proofs.Common.{◌∙◌, subst, append_assoc, append-nil, arith}
 use Rattle.std.specs.Prelude.{⊤, get_or}
 use Rattle.toml_lexemes.specs.Bytes.{ends_word, head, ends_with_dot}
-use Rattle.toml_lexemes.specs.Lexemes.{in_word, between, within, first, begins, goes_on, stops, turn, begins_line_feed}
-use Rattle.toml_lexemes.specs.Lexemes.{lengthened_toml, cut_first, cut_toml}
+use Rattle.text_lexemes.specs.Languages.{between, within, begins, goes_on, stops, lengthened}
+use Rattle.toml_lexemes.specs.Lexemes.{in_word, turn, begins_line_feed, cut_toml, toml}
 use Rattle.toml_lexemes.specs.Statements.{a_word, role_of, ends_part, word_parts, Collected, whole_line, with_role, with_lexeme}
-use Rattle.toml_lexemes.proofs.Firsts.{cut_begun}
-use Rattle.toml_lexemes.proofs.Following.{first_word}
-use Rattle.toml_lexemes.proofs.Kept.{IsSome, some_more, some_cut, shortened, cut_turned}
+use Rattle.text_lexemes.proofs.Cuts.{IsSome, some_more, cut_begun}
+use Rattle.toml_lexemes.proofs.Following.{first_word, word_blank}
+use Rattle.toml_lexemes.proofs.Kept.{some_cut, shortened, cut_turned}
 
 -- ---- the bytes of a word
 
@@ -29,7 +29,7 @@ module _ (x : ℕ) (s : List ℕ) (alone : cut_toml (within in_word) (x ∷ s) �
       by false e = refl
       by true e =
           let stop : turn in_word x (begins_line_feed s) ≡ stops = ap (λ p. cond p stops (goes_on in_word)) e in
-          let clash : [] ∷ cut_first (first x) x (λ m. cut_toml m s) ≡ (x ∷ s) ∷ [] = sym (cut_turned in_word x s stops stop) ∙ alone in
+          let clash : [] ∷ cut_toml between (x ∷ s) ≡ (x ∷ s) ∷ [] = sym (cut_turned in_word x s stops stop) ∙ alone in
           absurd cc
 
   tail_alone : cut_toml (within in_word) s ≡ s ∷ []
@@ -41,8 +41,8 @@ are_letters : (s : List ℕ) → cut_toml (within in_word) s ≡ s ∷ [] → Ar
 are_letters [] e = tt
 are_letters (x ∷ s) e = (is_letter x s e, are_letters s (tail_alone x s e))
 
-word_begun : (x : ℕ) (s : List ℕ) → ends_word x ≡ false → cut_toml between (x ∷ s) ≡ lengthened_toml x (cut_toml (within in_word) s)
-word_begun x s e = cut_begun x s (begins in_word) (first_word x e)
+word_begun : (x : ℕ) (s : List ℕ) → ends_word x ≡ false → cut_toml between (x ∷ s) ≡ lengthened x (cut_toml (within in_word) s)
+word_begun x s e = cut_begun toml x s (begins in_word) (word_blank x e) (first_word x e)
 
 pub word_letters : (s : List ℕ) → cut_toml between s ≡ s ∷ [] → ends_word (head s) ≡ false → AreLetters s
 word_letters [] alone e = absurd (cc)
@@ -57,7 +57,7 @@ letters_more : (s w t : List ℕ) (ts : List (List ℕ)) → AreLetters s → cu
 letters_more [] w t ts h e = e
 letters_more (x ∷ s) w t ts (here, later) e =
     cut_turned in_word x (s ++ w) (goes_on in_word) (goes_on_at x (s ++ w) here)
-    ∙ ap (lengthened_toml x) (letters_more s w t ts later e)
+    ∙ ap (lengthened x) (letters_more s w t ts later e)
 
 -- the lexemes of bytes that begin with a word, alone and after a word
 pub words_meet : (x : ℕ) (s : List ℕ) (y : ℕ) (ys : List ℕ) → AreLetters (x ∷ s) → ends_word y ≡ false
@@ -71,11 +71,11 @@ words_meet x s y ys (here, later) e = by (cut_toml (within in_word) ys) refl
     by [] is = absurd (subst IsSome is (some_cut in_word ys))
     by (t ∷ ts) is =
         let within_word : cut_toml (within in_word) (y ∷ ys) ≡ (y ∷ t) ∷ ts =
-        cut_turned in_word y ys (goes_on in_word) (goes_on_at y ys e) ∙ ap (lengthened_toml y) is in (
+        cut_turned in_word y ys (goes_on in_word) (goes_on_at y ys e) ∙ ap (lengthened y) is in (
           t,
           ts,
-          word_begun y ys e ∙ ap (lengthened_toml y) is,
-          word_begun x (s ++ (y ∷ ys)) here ∙ ap (lengthened_toml x) (letters_more s (y ∷ ys) (y ∷ t) ts later within_word),
+          word_begun y ys e ∙ ap (lengthened y) is,
+          word_begun x (s ++ (y ∷ ys)) here ∙ ap (lengthened x) (letters_more s (y ∷ ys) (y ∷ t) ts later within_word),
         )
 
 -- ---- parts
@@ -83,11 +83,11 @@ words_meet x s y ys (here, later) e = by (cut_toml (within in_word) ys) refl
 some_parts : (x : ℕ) (s : List ℕ) → IsSome (word_parts (x ∷ s))
 some_parts x s = by ((x == 46) || ends_part s)
   where
-    by : (b : Bool) → IsSome (cond b ((x ∷ []) ∷ word_parts s) (lengthened_toml x (word_parts s)))
+    by : (b : Bool) → IsSome (cond b ((x ∷ []) ∷ word_parts s) (lengthened x (word_parts s)))
     by true = tt
     by false = some_more x (word_parts s)
 
-lengthened_both : (x : ℕ) (ss ts : List (List ℕ)) → IsSome ss → lengthened_toml x (ss ++ ts) ≡ lengthened_toml x ss ++ ts
+lengthened_both : (x : ℕ) (ss ts : List (List ℕ)) → IsSome ss → lengthened x (ss ++ ts) ≡ lengthened x ss ++ ts
 lengthened_both x [] ts h = absurd h
 lengthened_both x (s ∷ ss) ts h = refl
 
@@ -101,21 +101,21 @@ same_end x y ys =
 pub parts_both : (x : ℕ) (s t : List ℕ) → (ends_with_dot (x ∷ s) || ends_part t) ≡ true
     → word_parts (x ∷ (s ++ t)) ≡ word_parts (x ∷ s) ++ word_parts t
 parts_both x [] t e =
-    ap (λ b. cond b ((x ∷ []) ∷ word_parts t) (lengthened_toml x (word_parts t))) e
+    ap (λ b. cond b ((x ∷ []) ∷ word_parts t) (lengthened x (word_parts t))) e
     ∙ sym (ap (λ (l : List (List ℕ)). l ++ word_parts t) (one ((x == 46) || true)))
   where
-    one : (b : Bool) → cond b ((x ∷ []) ∷ []) (lengthened_toml x []) ≡ (x ∷ []) ∷ []
+    one : (b : Bool) → cond b ((x ∷ []) ∷ []) (lengthened x []) ≡ (x ∷ []) ∷ []
     one true = refl
     one false = refl
 parts_both x (y ∷ ys) t e =
     by ((x == 46) || (y == 46)) (parts_both y ys t (ap (λ b. b || ends_part t) (sym (same_end x y ys)) ∙ e))
   where
     by : (b : Bool) → word_parts (y ∷ (ys ++ t)) ≡ word_parts (y ∷ ys) ++ word_parts t
-        → cond b ((x ∷ []) ∷ word_parts (y ∷ (ys ++ t))) (lengthened_toml x (word_parts (y ∷ (ys ++ t))))
-        ≡ cond b ((x ∷ []) ∷ word_parts (y ∷ ys)) (lengthened_toml x (word_parts (y ∷ ys))) ++ word_parts t
+        → cond b ((x ∷ []) ∷ word_parts (y ∷ (ys ++ t))) (lengthened x (word_parts (y ∷ (ys ++ t))))
+        ≡ cond b ((x ∷ []) ∷ word_parts (y ∷ ys)) (lengthened x (word_parts (y ∷ ys))) ++ word_parts t
     by true more = ap (λ (l : List (List ℕ)). (x ∷ []) ∷ l) more
     by false more =
-        ap (lengthened_toml x) more ∙ lengthened_both x (word_parts (y ∷ ys)) (word_parts t) (some_parts y ys)
+        ap (lengthened x) more ∙ lengthened_both x (word_parts (y ∷ ys)) (word_parts t) (some_parts y ys)
 
 -- and are read as both
 pub both_read : (c : Collected) (x : ℕ) (s : List ℕ) (y : ℕ) (t : List ℕ) → role_of x ≡ a_word → role_of y ≡ a_word

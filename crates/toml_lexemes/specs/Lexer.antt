@@ -1,7 +1,8 @@
 -- The model of a lexer.
 use Rattle.std.specs.Prelude.{ℕ, List, drop}
 use Rattle.std.specs.Str.{IsUtf8, IsCharBoundary}
-use Rattle.toml_lexemes.specs.Lexemes.{between, cut_toml}
+use Rattle.text_lexemes.specs.Languages.{between}
+use Rattle.toml_lexemes.specs.Lexemes.{cut_toml}
 use Rattle.toml_lexemes.specs.declared.lexer.Lexer.TheInside.{Inside}
 
 -- the lexemes that are left

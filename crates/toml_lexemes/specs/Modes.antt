@@ -1,5 +1,6 @@
 -- What a clause sees of a mode.
 use Rattle.std.specs.Prelude.{Bool, true, false}
+use Rattle.text_lexemes.specs.Languages as language
 use Rattle.toml_lexemes.specs.Lexemes as spec
 use Rattle.toml_lexemes.specs.declared.mode.StringKind.{StringKind}
 use Rattle.toml_lexemes.specs.declared.mode.StringKind.TheVariants.{Basic, Literal}
@@ -30,10 +31,10 @@ inner_of (Closed k) = spec.closed (kind_of k)
 inner_of (ClosedMore k) = spec.closed_more (kind_of k)
 
 -- the turn that the code means
-abbrev pub turn_of : ByteTurn → spec.ByteTurn
-turn_of (GoesOn m) = spec.goes_on (inner_of m)
-turn_of Ends = spec.ends
-turn_of Stops = spec.stops
+abbrev pub turn_of : ByteTurn → language.Turn spec.Inner
+turn_of (GoesOn m) = language.goes_on (inner_of m)
+turn_of Ends = language.ends
+turn_of Stops = language.stops
 
 -- a mode in which the lexeme may end before any byte: the byte before it is a quote
 abbrev pub is_after_quote : spec.Inner → Bool

@@ -1,37 +1,33 @@
 -- Texts with gaps around them.
-use Rattle.std.specs.Prelude.{◌≡◌, ◌==◌, ◌&&◌, ◌||◌, ℕ, Bool, true, false, List, [], ◌∷◌, ◌++◌, ⊤}
-use Rattle.toml_lexemes.specs.Bytes.{carriage_return, line_feed, is_blank}
-use Rattle.toml_lexemes.specs.Lexemes.{in_comment, LexerMode, between, within, First, passed, alone, begins, first}
-use Rattle.toml_lexemes.specs.Lexemes.{ByteTurn, goes_on, ends, stops}
-use Rattle.toml_lexemes.specs.Lexemes.{turn, begins_line_feed}
+use Rattle.std.specs.Prelude.{◌≡◌, ◌==◌, ◌&&◌, ◌||◌, ℕ, Bool, false, List, [], ◌∷◌, ◌++◌, ⊤}
+use Rattle.text_lexemes.specs.Languages.{First, alone, begins, Turn, goes_on, ends, stops, LexerMode, between, within}
+use Rattle.text_lexemes.specs.SpacedTexts.{IsGap, IsSpacedText}
+use Rattle.toml_lexemes.specs.Bytes.{carriage_return, line_feed}
+use Rattle.toml_lexemes.specs.Lexemes.{Inner, in_comment, first, turn, begins_line_feed, toml}
 
 -- a gap: blanks alone, which are the space, the tab and CR
 abbrev pub IsTomlGap : List ℕ → Type 0
-IsTomlGap [] = ⊤
-IsTomlGap (x ∷ xs) = (is_blank x ≡ true) × IsTomlGap xs
+IsTomlGap bytes = IsGap toml bytes
 
 -- bytes that are these texts in their order, with gaps before, between and after them, any of which may be empty
 abbrev pub IsSpacedToml : List ℕ → List (List ℕ) → Type 0
-IsSpacedToml bytes [] = IsTomlGap bytes
-IsSpacedToml bytes (s ∷ ss) =
-    (g : List ℕ) × (rest : List ℕ) × IsTomlGap g × (bytes ≡ g ++ (s ++ rest)) × IsSpacedToml rest ss
+IsSpacedToml bytes ss = IsSpacedText toml bytes ss
 
 -- ---- what may follow a lexeme
 
 -- the mode after a byte between two lexemes
-abbrev pub mode_first : First → LexerMode
-mode_first passed = between
+abbrev pub mode_first : First Inner → LexerMode Inner
 mode_first alone = between
 mode_first (begins i) = within i
 
 -- the mode after a byte in a lexeme
-abbrev pub mode_turn : ByteTurn → LexerMode
+abbrev pub mode_turn : Turn Inner → LexerMode Inner
 mode_turn (goes_on i) = within i
 mode_turn ends = between
 mode_turn stops = between
 
 -- the mode after these bytes
-abbrev pub mode_after : LexerMode → List ℕ → LexerMode
+abbrev pub mode_after : LexerMode Inner → List ℕ → LexerMode Inner
 mode_after m [] = m
 mode_after between (x ∷ xs) = mode_after (mode_first (first x)) xs
 mode_after (within i) (x ∷ xs) = mode_after (mode_turn (turn i x (begins_line_feed xs))) xs
@@ -40,7 +36,7 @@ mode_after (within i) (x ∷ xs) = mode_after (mode_turn (turn i x (begins_line_
 -- first byte stops it. So a word ends before a blank, a line end, a sign, a quote or a comment; a comment before a line end;
 -- a string of one line that is not closed before a line feed; two quotes, and a string of several lines that is closed,
 -- before any byte but their quote; and a string of several lines that is not closed only at the end of the text.
-abbrev pub EndsBefore : LexerMode → List ℕ → Type 0
+abbrev pub EndsBefore : LexerMode Inner → List ℕ → Type 0
 EndsBefore m [] = ⊤
 EndsBefore between (x ∷ xs) = ⊤
 EndsBefore (within i) (x ∷ xs) = turn i x (begins_line_feed xs) ≡ stops

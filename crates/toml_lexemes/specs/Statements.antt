@@ -2,7 +2,8 @@
 use Rattle.std.specs.Prelude.{ℕ, zero, suc, List, [], ◌∷◌, ◌++◌, Bool, true, false, cond, ◌||◌, ◌==◌}
 use Rattle.toml_lexemes.specs.Bytes as byte
 use Rattle.toml_lexemes.specs.Bytes.{is_blank, head}
-use Rattle.toml_lexemes.specs.Lexemes.{lengthened_toml, toml_lexemes_of}
+use Rattle.text_lexemes.specs.Languages.{lengthened}
+use Rattle.toml_lexemes.specs.Lexemes.{toml_lexemes_of}
 
 -- what a lexeme is to the statement that it is in
 pub data Role : Type 0 where
@@ -38,7 +39,7 @@ ends_part (x ∷ xs) = x == byte.dot
 -- dots as without them. In TOML no other words begin or end with a dot, so numbers and times stay what they are.
 abbrev pub word_parts : List ℕ → List (List ℕ)
 word_parts [] = []
-word_parts (x ∷ xs) = cond ((x == byte.dot) || ends_part xs) ((x ∷ []) ∷ word_parts xs) (lengthened_toml x (word_parts xs))
+word_parts (x ∷ xs) = cond ((x == byte.dot) || ends_part xs) ((x ∷ []) ∷ word_parts xs) (lengthened x (word_parts xs))
 
 -- ---- comments
 

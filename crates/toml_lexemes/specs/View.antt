@@ -1,8 +1,6 @@
 -- What a clause sees of a lexeme.
-use Rattle.std.specs.Prelude.{◌≡◌, ℕ, ◌+◌, ◌<◌, ◌≤◌, true, false, List, [], ◌∷◌, length, drop, Option, MatchOption, ⊤}
-use Rattle.std.specs.Str.{IsCharBoundary}
+use Rattle.std.specs.Prelude.{◌≡◌, ℕ, true, false, List, [], ◌∷◌, Option, MatchOption, ⊤}
 use Rattle.toml_lexemes.specs.Bytes as byte
-use Rattle.toml_lexemes.specs.Lexemes.{between, cut_toml}
 use Rattle.toml_lexemes.specs.declared.lexeme.Lexeme.{Lexeme}
 use Rattle.toml_lexemes.specs.declared.lexeme.Lexeme.TheVariants.{OpenArray, CloseArray, OpenTable, CloseTable, Comma, Equals, LineEnd}
 use Rattle.toml_lexemes.specs.declared.lexeme.Lexeme.TheVariants.{Comment, String, Word}
@@ -36,10 +34,3 @@ HasTomlKind (Word s) = byte.ends_word (byte.head s.now) ≡ false
 -- of these texts the first is returned, as a lexeme, and the others are left; or none was left
 abbrev pub YieldsTomlLexeme : List (List ℕ) → Option Lexeme → List (List ℕ) → Type 0
 YieldsTomlLexeme old r new = MatchOption r ((old ≡ []) × (new ≡ [])) (λ l. (old ≡ toml_text_of l ∷ new) × HasTomlKind l)
-
--- the first lexeme from a place of the text on, after which the others come
-pub record IsFirstTomlLexeme (text : List ℕ) (place : ℕ) (lexeme : List ℕ) : Type 0 where
-  pub some : 0 < length lexeme
-  pub within : place + length lexeme ≤ length text
-  pub boundary : IsCharBoundary text (place + length lexeme)
-  pub cuts : cut_toml between (drop place text) ≡ lexeme ∷ cut_toml between (drop (place + length lexeme) text)

@@ -1,10 +1,12 @@
 ghost use Rattle.std.specs.Prelude.{◌≡◌, ◌+◌, ◌-◌, ◌<◌, ◌≤◌, ◌⊎◌, ◌∷◌, false, length, take, drop, slice_index};
 ghost use Rattle.std.specs.Str.{IsCharBoundary};
 ghost use Rattle.toml_lexemes.specs.Bytes as ascii;
-ghost use Rattle.toml_lexemes.specs.Lexemes.{begins, begins_line_feed, between, cut_toml, first, within};
+ghost use Rattle.text_lexemes.specs.FirstLexemes.{IsFirst};
+ghost use Rattle.text_lexemes.specs.Languages.{begins, between, within};
+ghost use Rattle.toml_lexemes.specs.Lexemes.{begins_line_feed, cut_toml, first, toml};
 ghost use Rattle.toml_lexemes.specs.Modes.{inner_of, is_after_quote};
 ghost use Rattle.toml_lexemes.specs.SpacedLexemes.{blanks};
-ghost use Rattle.toml_lexemes.specs.View.{toml_text_of, HasTomlKind, IsFirstTomlLexeme};
+ghost use Rattle.toml_lexemes.specs.View.{toml_text_of, HasTomlKind};
 
 use crate::lexeme::Lexeme;
 use crate::mode::{ByteTurn, LexerMode, StringKind, is_blank, turn_at};
@@ -64,8 +66,9 @@ fn slice_at<'a>(text: &'a str, place: usize, begun: LexerMode) -> &'a str
     requires within { place < length text.now }
     requires boundary { IsCharBoundary text.now place }
     requires begun { is_after_quote (inner_of begun) ≡ false }
+    requires blank { ascii.is_blank (slice_index text.now place) ≡ false }
     requires begins { first (slice_index text.now place) ≡ begins (inner_of begun) }
-    ensures first { IsFirstTomlLexeme text.now place result.now }
+    ensures first { IsFirst toml text.now place result.now }
     ensures head { ascii.head result.now ≡ slice_index text.now place }
 {
     &text[place..lexeme_end(text.as_bytes(), place + 1, begun)]
@@ -77,7 +80,7 @@ pub(crate) fn lexeme_at<'a>(text: &'a str, place: usize) -> Lexeme<'a>
     requires within { place < length text.now }
     requires boundary { IsCharBoundary text.now place }
     requires begins { ascii.is_blank (slice_index text.now place) ≡ false }
-    ensures first { IsFirstTomlLexeme text.now place (toml_text_of result) }
+    ensures first { IsFirst toml text.now place (toml_text_of result) }
     ensures named { HasTomlKind result }
 {
     match text.as_bytes()[place] {

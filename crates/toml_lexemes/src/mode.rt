@@ -1,5 +1,6 @@
 ghost use Rattle.std.specs.Prelude.{◌≡◌, ◌==◌, cond};
 ghost use Rattle.toml_lexemes.specs.Bytes as ascii;
+ghost use Rattle.text_lexemes.specs.Languages as language;
 ghost use Rattle.toml_lexemes.specs.Lexemes as spec;
 ghost use Rattle.toml_lexemes.specs.Modes.{kind_of, inner_of, turn_of};
 
@@ -133,7 +134,7 @@ fn lines_turn(kind: StringKind, byte: u8) -> ByteTurn
 #[inline]
 fn at_mark(kind: StringKind, byte: u8, mode: LexerMode, other: ByteTurn) -> ByteTurn
     ensures { turn_of result
-        ≡ cond (byte == spec.quote_mark (kind_of kind)) (spec.goes_on (inner_of mode)) (turn_of other) }
+        ≡ cond (byte == spec.quote_mark (kind_of kind)) (language.goes_on (inner_of mode)) (turn_of other) }
 {
     if is_mark(kind, byte) {
         ByteTurn::GoesOn(mode)
@@ -145,7 +146,7 @@ fn at_mark(kind: StringKind, byte: u8, mode: LexerMode, other: ByteTurn) -> Byte
 /// The lexeme stops where this is so, and else goes on in the mode.
 #[inline]
 fn stops_at(stops: bool, mode: LexerMode) -> ByteTurn
-    ensures { turn_of result ≡ cond stops spec.stops (spec.goes_on (inner_of mode)) }
+    ensures { turn_of result ≡ cond stops language.stops (language.goes_on (inner_of mode)) }
 {
     if stops {
         ByteTurn::Stops

@@ -5,7 +5,7 @@ ghost use Rattle.prettyless_model.specs.Shows.{apart, ended, loose, spaced};
 ghost use Rattle.toml_lexemes.specs.Rows.{AreNotRead, AreReadAs, SaysStatements, SaysOther, SaysTheSame, mark, shown, statement};
 
 /// A statement goes on to the end of its line, and in brackets over line ends.
-#[tactic(auto, unfolding(crate::specs::Statements::statements, crate::specs::Lexemes::cut_toml))]
+#[tactic(auto, unfolding(crate::specs::Statements::statements, text_lexemes::specs::Languages::cut))]
 pub fn lines()
     ensures key_and_value { SaysStatements "a = 1\n" (statement ("a" ∷ "=" ∷ "1" ∷ []) ∷ []) }
     ensures two { SaysStatements "a=1\nb = 'x'" (statement ("a" ∷ "=" ∷ "1" ∷ []) ∷ statement ("b" ∷ "=" ∷ "'x'" ∷ []) ∷ []) }
@@ -24,7 +24,7 @@ pub fn lines()
 
 /// What does not matter: gaps, also those around the dots of keys, empty lines, how lines end, and a comma before a closing
 /// bracket.
-#[tactic(auto, unfolding(crate::specs::Statements::statements, crate::specs::Lexemes::cut_toml))]
+#[tactic(auto, unfolding(crate::specs::Statements::statements, text_lexemes::specs::Languages::cut))]
 pub fn layouts()
     ensures gaps { SaysTheSame "\t a=1 " "a = 1" }
     ensures dots { SaysTheSame "a . b .c. d = 1" "a.b.c.d = 1" }
@@ -37,7 +37,7 @@ pub fn layouts()
 {}
 
 /// What matters: each lexeme, their order, and which are on a line of their own.
-#[tactic(auto, unfolding(crate::specs::Statements::statements, crate::specs::Lexemes::cut_toml))]
+#[tactic(auto, unfolding(crate::specs::Statements::statements, text_lexemes::specs::Languages::cut))]
 pub fn differences()
     ensures value { SaysOther "a = 1" "a = 2" }
     ensures order { SaysOther "a = 1\nb = 2" "b = 2\na = 1" }
@@ -53,7 +53,7 @@ pub fn differences()
 {}
 
 /// A comment is read without the blanks at its end, and after the comma that it stands before.
-#[tactic(auto, unfolding(crate::specs::Statements::statements, crate::specs::Lexemes::cut_toml))]
+#[tactic(auto, unfolding(crate::specs::Statements::statements, text_lexemes::specs::Languages::cut))]
 pub fn comments()
     ensures with_value { SaysStatements "a = 1 # one \t\r\n" (statement ("a" ∷ "=" ∷ "1" ∷ "# one" ∷ []) ∷ []) }
     ensures alone { SaysStatements "# one\n# two" (statement ("# one" ∷ []) ∷ statement ("# two" ∷ []) ∷ []) }

@@ -1,9 +1,9 @@
 use Rattle.std.proofs.Common.{◌≡◌, ◌+◌, ◌-◌, ◌<◌, ◌++◌, true, length, take, drop, get_or, refl, sym, ap, ◌∙◌, subst, arith}
 use Rattle.toml_lexemes.specs.Bytes.{is_blank}
 use Rattle.toml_lexemes.specs.SpacedLexemes.{blanks}
-use Rattle.toml_lexemes.proofs.Blanks.{one_blank, stops_blanks, ends_blanks}
+use Rattle.text_lexemes.proofs.Firsts.{one_blank, stops_blanks, ends_blanks, past_blank}
+use Rattle.toml_lexemes.specs.Lexemes.{toml}
 use Rattle.toml_lexemes.proofs.Bytes.{blank_ascii}
-use Rattle.toml_lexemes.proofs.Firsts.{past_blank}
 use Rattle.toml_lexemes.proofs.cut.blanks_end.Goals as goal
 
 pub loop-place-preserved : goal.loop-place-preserved
@@ -13,8 +13,8 @@ loop-place-preserved c =
     let blank : is_blank (get_or d place 0) ≡ true = sym c.is_blank.ensures ∙ c.if-not-is_blank.false in
     let last : place ≡ place + 1 - 1 = omega arith in
     record {
-      same = past_blank d place (omega arith) blank ∙ c.loop-place.invariant.same;
-      blanks = one_blank d c.args.from place (omega arith) (omega arith) blank c.loop-place.invariant.blanks;
+      same = past_blank toml d place (omega arith) blank ∙ c.loop-place.invariant.same;
+      blanks = one_blank toml d c.args.from place (omega arith) (omega arith) blank c.loop-place.invariant.blanks;
       after = λ h. subst (λ k. get_or d k 0 < 128) last (blank_ascii (get_or d place 0) blank);
     }
 
@@ -30,7 +30,7 @@ loop-place-init c =
 
 pub returns-then-not-is_blank-clause-blanks : goal.returns-then-not-is_blank-clause-blanks
 returns-then-not-is_blank-clause-blanks c =
-    stops_blanks c.args.bytes.now c.args.from c.loop-place.place (omega arith) (omega arith)
+    stops_blanks toml c.args.bytes.now c.args.from c.loop-place.place (omega arith) (omega arith)
     (sym c.is_blank.ensures ∙ c.if-not-is_blank.true) c.loop-place.invariant.blanks
 
 pub returns-clause-blanks : goal.returns-clause-blanks
@@ -38,4 +38,4 @@ returns-clause-blanks c =
     let d = c.args.bytes.now in
     let all : c.loop-place.place ≡ length d = omega arith in
     subst (λ k. blanks (drop c.args.from d) ≡ take (k - c.args.from) (drop c.args.from d)) all
-    (ends_blanks d c.args.from c.loop-place.place (omega arith) (omega arith) c.loop-place.invariant.blanks)
+    (ends_blanks toml d c.args.from c.loop-place.place (omega arith) (omega arith) c.loop-place.invariant.blanks)

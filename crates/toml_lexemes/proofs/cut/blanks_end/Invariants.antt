@@ -1,5 +1,6 @@
 use Rattle.std.proofs.Common.{◌≡◌, ◌-◌, ◌<◌, ◌++◌, take, drop, get_or}
-use Rattle.toml_lexemes.specs.Lexemes.{between, cut_toml}
+use Rattle.text_lexemes.specs.Languages.{between}
+use Rattle.toml_lexemes.specs.Lexemes.{cut_toml}
 use Rattle.toml_lexemes.specs.SpacedLexemes.{blanks}
 use Rattle.toml_lexemes.proofs.cut.blanks_end.Given as goal
 

@@ -1,8 +1,9 @@
 use Rattle.std.proofs.Common.{◌+◌, ◌≤◌, length, sym, ◌∙◌, subst, ap}
 use Rattle.toml_lexemes.specs.Bytes.{head}
-use Rattle.toml_lexemes.specs.View.{IsFirstTomlLexeme}
+use Rattle.text_lexemes.specs.FirstLexemes.{IsFirst}
+use Rattle.toml_lexemes.specs.Lexemes.{toml}
 use Rattle.toml_lexemes.specs.Modes.{inner_of}
-use Rattle.toml_lexemes.proofs.Firsts.{boundary_at, first_slice, slice_head}
+use Rattle.text_lexemes.proofs.Firsts.{boundary_at, first_slice, slice_is}
 use Rattle.toml_lexemes.proofs.cut.slice_at.Goals as goal
 
 pub range-requires-clause-end_boundary : goal.range-requires-clause-end_boundary
@@ -18,8 +19,8 @@ returns-clause-first c =
     let same = c.as_bytes.ensures.value in
     let within : end ≤ length d = rw (← same) c.lexeme_end.ensures.bounds.1 in
     let boundary = boundary_at d (c.args.place + 1) end c.utf8.text within (rw (← same) c.lexeme_end.ensures.ended) in
-    subst (IsFirstTomlLexeme d c.args.place) (sym c.range.ensures.value)
-    (first_slice d c.args.place c.requires.within end c.lexeme_end.ensures.bounds.0 within (inner_of c.args.begun) c.requires.begins
+    subst (IsFirst toml d c.args.place) (sym c.range.ensures.value)
+    (first_slice toml d c.args.place c.requires.within end c.lexeme_end.ensures.bounds.0 within (inner_of c.args.begun) c.requires.blank c.requires.begins
     (rw (← same) c.lexeme_end.ensures.cut) boundary)
 
 pub returns-clause-head : goal.returns-clause-head
@@ -28,4 +29,4 @@ returns-clause-head c =
     let end = c.lexeme_end.result in
     let same = c.as_bytes.ensures.value in
     let within : end ≤ length d = rw (← same) c.lexeme_end.ensures.bounds.1 in
-    ap head c.range.ensures.value ∙ slice_head d c.args.place c.requires.within end c.lexeme_end.ensures.bounds.0 within
+    ap head c.range.ensures.value ∙ ap head (slice_is d c.args.place c.requires.within end c.lexeme_end.ensures.bounds.0 within)

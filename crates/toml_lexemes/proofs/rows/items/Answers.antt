@@ -1,6 +1,7 @@
 use Rattle.std.proofs.Common.{◌≡◌, ℕ, false, [], ◌∷◌, refl, codes}
 use Rattle.toml_lexemes.specs.Bytes.{ends_word}
-use Rattle.toml_lexemes.specs.Lexemes.{toml_lexemes_of, cut_toml}
+use Rattle.text_lexemes.specs.Languages.{cut}
+use Rattle.toml_lexemes.specs.Lexemes.{toml_lexemes_of}
 use Rattle.toml_lexemes.specs.Shown.{IsWholeLexeme}
 use Rattle.toml_lexemes.proofs.WholeLexemes.{sign_is_whole, word_is_whole, comment_is_whole}
 use Rattle.toml_lexemes.proofs.rows.items.Goals as goal
@@ -10,7 +11,7 @@ word : (x : ℕ) → toml_lexemes_of (x ∷ []) ≡ (x ∷ []) ∷ [] → ends_w
 word x e f = word_is_whole (x ∷ []) e f
 
 pub returns-clause-key_and_value : goal.returns-clause-key_and_value
-unfolding cut_toml
+unfolding cut
 returns-clause-key_and_value c = (
   _,
   (
@@ -35,7 +36,7 @@ returns-clause-key_and_value c = (
 )
 
 pub returns-clause-key : goal.returns-clause-key
-unfolding cut_toml
+unfolding cut
 returns-clause-key c = (
   _,
   (
@@ -52,7 +53,7 @@ returns-clause-key c = (
 )
 
 pub returns-clause-array : goal.returns-clause-array
-unfolding cut_toml
+unfolding cut
 returns-clause-array c = (
   _,
   (
@@ -80,5 +81,5 @@ returns-clause-array c = (
 )
 
 pub returns-clause-two_lexemes : goal.returns-clause-two_lexemes
-unfolding cut_toml
+unfolding cut
 returns-clause-two_lexemes c = λ b h. let e : toml_lexemes_of (codes "a b") ≡ codes "a b" ∷ [] = h.0.alone in cc

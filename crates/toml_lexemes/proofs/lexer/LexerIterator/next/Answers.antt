@@ -1,13 +1,14 @@
 use Rattle.std.proofs.Common.{◌≡◌, [], drop, sym, ◌∙◌, arith, rules}
-use Rattle.toml_lexemes.specs.Lexemes.{between, cut_toml}
-use Rattle.toml_lexemes.proofs.Firsts.{boundary_past, cut-past}
+use Rattle.text_lexemes.specs.Languages.{between}
+use Rattle.toml_lexemes.specs.Lexemes.{cut_toml, toml}
+use Rattle.text_lexemes.proofs.Firsts.{boundary_past, cut_past}
 use Rattle.toml_lexemes.proofs.lexer.LexerIterator.next.Goals as goal
 
 pub returns-then-place-text-clause-steps : goal.returns-then-place-text-clause-steps
 returns-then-place-text-clause-steps c =
     let d = c.self.inside.text.now in
     let place = c.blanks_end-place.result in
-    let none : cut_toml between (drop place d) ≡ [] = cut-past d place (omega arith) in
+    let none : cut_toml between (drop place d) ≡ [] = cut_past toml d place (omega arith) in
     let passed : cut_toml between (drop place d) ≡ cut_toml between (drop c.self.inside.place d) = rw
     (← c.as_bytes.ensures.value) c.blanks_end-place.ensures.cut in
     (sym c.self.view_is ∙ sym passed ∙ none, none)
