@@ -13,7 +13,8 @@ use Rattle.json.specs.Word.{is_operator, is_space, ends_word, head}
 use Rattle.json.specs.Lex.{Class, quote, backslash, operator, space, other, class, between, in_word, in_string, lex}
 use Rattle.json.proofs.Found.{Some_inj}
 use Rattle.json_validity.specs.Document.{document}
-use Rattle.json_lexemes.specs.Lexemes.{lengthened, cut, lexemes}
+use Rattle.text_lexemes.specs.Languages.{lengthened}
+use Rattle.json_lexemes.specs.Lexemes.{cut, lexemes}
 use Rattle.json_lexemes.specs.Spaced.{IsGap}
 use Rattle.json_lexemes.specs.SpacedLexemes.{AreGaps, Spaced, after_gap, lexemes_of, put_together, spaced_as, spaced_lexemes}
 use Rattle.json_lexemes.proofs.Classes.{IsOfClass, IsOfClass-class, each_operator}

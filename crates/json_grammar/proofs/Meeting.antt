@@ -11,7 +11,8 @@ use Rattle.json.specs.Word.{is_operator, is_space, word}
 use Rattle.json.specs.Lex.{Lexeme, token, comma, colon, Mode, between, in_word, in_string, in_escape, Class, quote, backslash, operator}
 use Rattle.json.specs.Lex.{space, other, class, lex, lex_byte, operator_lexeme, string_token, punctuate, fresh}
 use Rattle.json.proofs.Grammar.{value_is}
-use Rattle.json_lexemes.specs.Lexemes.{lengthened, cut, cut_byte}
+use Rattle.text_lexemes.specs.Languages.{lengthened}
+use Rattle.json_lexemes.specs.Lexemes.{cut, cut_byte}
 use Rattle.json_lexemes.proofs.Classes.{IsOfClass, IsOfClass-class, each_operator}
 use Rattle.json_lexemes.proofs.Words.{IsRun, run_of, cut-word, lex-word, IsWord, IsWord-word}
 use Rattle.json_lexemes.proofs.Strings.{whole_string}

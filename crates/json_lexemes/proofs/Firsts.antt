@@ -7,7 +7,8 @@ use Rattle.std.proofs.lemmas.Str.{IsCharBoundary-after_ascii, IsCharBoundary-bef
 use Rattle.std.specs.Str.{IsUtf8, IsCharBoundary}
 use Rattle.json.specs.Word.{head, is_operator, is_space}
 use Rattle.json.specs.Lex.{quote, backslash, operator, space, other, class, Mode, between, in_word, in_string}
-use Rattle.json_lexemes.specs.Lexemes.{lengthened, cut, cut_byte}
+use Rattle.text_lexemes.specs.Languages.{lengthened}
+use Rattle.json_lexemes.specs.Lexemes.{cut, cut_byte}
 use Rattle.json_lexemes.specs.SpacedLexemes.{first_spaces}
 use Rattle.json_lexemes.specs.View.{IsFirst}
 use Rattle.json_lexemes.proofs.Classes.{class-operator, class-space, each_operator, each_space}

@@ -1,4 +1,5 @@
 pub mod Classes
+pub mod JsonLanguage
 pub mod Gaps
 mod Ended
 pub mod Words

@@ -5,7 +5,8 @@ use Rattle.std.proofs.lemmas.Bool.{true≢false}
 use Rattle.std.proofs.lemmas.List.{drop_more}
 use Rattle.json.specs.Lex.{Mode, Class, quote, backslash, operator, space, other, class, between, in_string, in_word}
 use Rattle.json.specs.Word.{head, is_space}
-use Rattle.json_lexemes.specs.Lexemes.{cut, cut_byte, lengthened}
+use Rattle.text_lexemes.specs.Languages.{lengthened}
+use Rattle.json_lexemes.specs.Lexemes.{cut, cut_byte}
 use Rattle.json_lexemes.specs.SpacedLexemes.{first_spaces, spaced_as, spaced_lexemes}
 use Rattle.json_lexemes.specs.SpacedLexer.{IsFirstByte, IsFirstGap}
 use Rattle.json_lexemes.proofs.Classes.{IsOfClass, IsOfClass-class}

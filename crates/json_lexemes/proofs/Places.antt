@@ -5,7 +5,8 @@ use Rattle.std.proofs.lemmas.Bool.{or_cases, cases_lt, ne_eqb}
 use Rattle.std.proofs.lemmas.List.{take_more, drop_more, drop_all, take_all, get_or-drop}
 use Rattle.json.specs.Word.{is_operator, is_space, ends_word}
 use Rattle.json.specs.Lex.{Mode, between, in_word, in_string, in_escape}
-use Rattle.json_lexemes.specs.Lexemes.{lengthened, cut}
+use Rattle.text_lexemes.specs.Languages.{lengthened}
+use Rattle.json_lexemes.specs.Lexemes.{cut}
 use Rattle.json_lexemes.specs.Words.{StringGoesOn}
 use Rattle.json_lexemes.proofs.Classes.{each_space, each_operator}
 use Rattle.json_lexemes.proofs.Ended.{ends}

@@ -10,7 +10,8 @@ use Rattle.json.specs.Token.{string}
 use Rattle.json.specs.Lex.{Lexeme, token, string_token, quote, backslash, operator, space, other, Mode, between, in_string, in_escape}
 use Rattle.json.specs.Lex.{lex, lex_byte}
 use Rattle.json.proofs.Found.{not_found}
-use Rattle.json_lexemes.specs.Lexemes.{lengthened, cut, cut_byte}
+use Rattle.text_lexemes.specs.Languages.{lengthened}
+use Rattle.json_lexemes.specs.Lexemes.{cut, cut_byte}
 use Rattle.json_lexemes.proofs.Inline.{IsInline, inline_both, inline_by, inline_not, is_line_end}
 
 abbrev mode : Within → Mode

@@ -7,7 +7,8 @@ use Rattle.json.specs.Token.{Token, begin_object, end_object, begin_array, end_a
 use Rattle.json.specs.Word.{is_operator, is_space, head, ends_word, after_number, number_before, word}
 use Rattle.json.specs.Lex.{Lexeme, token, Mode, between, in_word, Class, quote, backslash, operator, space, other, class, lex, lex_byte}
 use Rattle.json.proofs.Printed.Numbers.{in_word-ended}
-use Rattle.json_lexemes.specs.Lexemes.{lengthened, cut, cut_byte}
+use Rattle.text_lexemes.specs.Languages.{lengthened}
+use Rattle.json_lexemes.specs.Lexemes.{cut, cut_byte}
 use Rattle.json_lexemes.proofs.Classes.{IsOfClass, IsOfClass-class, class-operator, class-space}
 use Rattle.json_lexemes.proofs.Ended.{ends, word-ended}
 

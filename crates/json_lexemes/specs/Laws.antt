@@ -2,9 +2,15 @@
 use Rattle.std.specs.Prelude.{◌≡◌, ◌≢◌, ℕ, List, [], ◌++◌, Some, All}
 use Rattle.json.specs.Json.{Json}
 use Rattle.json_validity.specs.Document.{document}
+use Rattle.text_lexemes.specs.Languages.{lexemes_in}
+use Rattle.json_lexemes.specs.JsonLanguage.{json_language}
 use Rattle.json_lexemes.specs.Lexemes.{lexemes}
 use Rattle.json_lexemes.specs.Spaced.{IsGap, IsSpacedJson}
 use Rattle.json_lexemes.specs.SpacedLexemes.{AreGaps, lexemes_of, put_together, spaced_lexemes}
+
+-- the lexemes of a text are those that the language has
+abbrev pub LexemesOfLanguage : Type 0
+LexemesOfLanguage = (text : List ℕ) → lexemes text ≡ lexemes_in json_language text
 
 -- a text is its lexemes with gaps around them
 abbrev pub TextsAreSpacedLexemes : Type 0

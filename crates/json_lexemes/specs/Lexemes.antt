@@ -1,11 +1,7 @@
 -- The lexemes of a JSON text: its brackets, commas and colons, its strings with their quotes, and its words.
 use Rattle.std.specs.Prelude.{ℕ, List, [], ◌∷◌}
+use Rattle.text_lexemes.specs.Languages.{lengthened}
 use Rattle.json.specs.Lex.{Mode, between, in_word, in_string, in_escape, Class, quote, backslash, operator, space, other, class}
-
--- one byte more in front of the lexeme that comes first
-abbrev pub lengthened : ℕ → List (List ℕ) → List (List ℕ)
-lengthened x [] = (x ∷ []) ∷ []
-lengthened x (s ∷ ss) = (x ∷ s) ∷ ss
 
 -- what the end of the text leaves: nothing, or the end of the lexeme that it cuts short
 abbrev pub cut_end : Mode → List (List ℕ)

@@ -1,3 +1,4 @@
+pub mod JsonLanguage
 pub mod Lexemes
 pub mod Spaced
 pub mod SpacedLexemes

@@ -1,5 +1,5 @@
 ghost use Rattle.json_lexemes.specs.Laws.{GapsAreSpaces, SpacedAreLexemes, TextsAreJoined};
-ghost use Rattle.json_lexemes.specs.Laws.{GapsKeepReadings, LexemesAreNotEmpty, TextsAreSpacedLexemes};
+ghost use Rattle.json_lexemes.specs.Laws.{GapsKeepReadings, LexemesAreNotEmpty, LexemesOfLanguage, TextsAreSpacedLexemes};
 
 /// A text is its lexemes in their order, with nothing but spaces before, between and after them. No lexeme is empty.
 pub fn law_spacing()
@@ -19,4 +19,9 @@ pub fn law_joined()
 /// the same lexemes.
 pub fn law_reading()
     ensures { GapsKeepReadings }
+{}
+
+/// The lexemes of a text are those of a language that is read from the left, so each law of `text_lexemes` holds of them.
+pub fn law_language()
+    ensures { LexemesOfLanguage }
 {}

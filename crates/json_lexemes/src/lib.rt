@@ -11,7 +11,7 @@ mod spaced_lexer;
 
 pub use blank_lines::BlankLines;
 pub use cut::spaces_end;
-pub use laws::{law_joined, law_reading, law_spacing};
+pub use laws::{law_joined, law_language, law_reading, law_spacing};
 pub use lexeme::Lexeme;
 pub use lexer::{Lexer, lexemes};
 pub use spaced_lexer::{SpacedLexer, has_line_end};

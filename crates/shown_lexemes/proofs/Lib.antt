@@ -1,1 +1,2 @@
 pub mod ShownTexts
+mod SmallTable

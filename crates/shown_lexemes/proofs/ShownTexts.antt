@@ -10,7 +10,7 @@ use Rattle.prettyless_model.proofs.Implied.{end_blank}
 use Rattle.text_lexemes.specs.Languages.{Language, lexemes_in}
 use Rattle.text_lexemes.specs.SpacedTexts.{IsGap, MayFollow, IsWellSpaced}
 use Rattle.text_lexemes.proofs.WellSpaced.{same_lexemes}
-use Rattle.shown_lexemes.specs.Neighbours.{least_at, EndHas, AreTextsOf, PassesGaps, LetsFollowLast, LetsEndLast}
+use Rattle.shown_lexemes.specs.Neighbours.{least_next, EndHas, AreTextsOf, PassesGaps, LetsFollowLast, LetsEndLast}
 use Rattle.shown_lexemes.specs.Neighbours.{AreApart, Neighbours, HasLeast, HasLeastEnd, AreAsAsked}
 
 -- ---- gaps
@@ -19,17 +19,17 @@ gap_blank : (p : Place) (g : List ℕ) → IsGapAt p g → IsBlank g
 gap_blank (Before r) g h = h.0
 gap_blank (After r l) g h = h.0
 
-gap_has : (p : Place) (g : List ℕ) → IsGapAt p g → Has (least_at p) g
+gap_has : (p : Place) (g : List ℕ) → IsGapAt p g → Has (least_next p) g
 gap_has (Before r) g h = tt
 gap_has (After r l) g h = h.2
 
-end_has : (p : Place) (g : List ℕ) → IsEndAt p g → EndHas (least_at p) g
+end_has : (p : Place) (g : List ℕ) → IsEndAt p g → EndHas (least_next p) g
 end_has (Before r) g h = tt
 end_has (After r Nothing) g h = tt
 end_has (After r Spacing) g h = tt
 end_has (After r LineEnd) g h = h.2
 
-first_blank : (t : Bool) (x : ℕ) (g : List ℕ) → is_blank_byte x ≡ t → IsBlank (x ∷ g) → (is_blank_byte x ≡ true) × IsBlank g
+pub first_blank : (t : Bool) (x : ℕ) (g : List ℕ) → is_blank_byte x ≡ t → IsBlank (x ∷ g) → (is_blank_byte x ≡ true) × IsBlank g
 first_blank true x g e h = (e, rw e at h)
 first_blank false x g e h = absurd (cc (rw e at h))
 
@@ -59,13 +59,13 @@ module _ {Inner : Type 0} (L : Language Inner) where
   FollowsLast None bytes = ⊤
   FollowsLast (Some s) bytes = MayFollow L s bytes
 
-  last_followed : (last : Option (List ℕ)) (p : Place) (t g rest bytes : List ℕ) → LetsFollowLast L last (least_at p) t → IsGapAt p g
+  last_followed : (last : Option (List ℕ)) (p : Place) (t g rest bytes : List ℕ) → LetsFollowLast L last (least_next p) t → IsGapAt p g
       → MayFollow L t rest → bytes ≡ g ++ (t ++ rest) → FollowsLast last bytes
   last_followed None p t g rest bytes lets gap follows is = tt
   last_followed (Some s) p t g rest bytes lets gap follows is =
       subst (MayFollow L s) (sym is) (lets g rest (gap_blank p g gap) (gap_has p g gap) follows)
 
-  last_ended : (last : Option (List ℕ)) (p : Place) (bytes : List ℕ) → LetsEndLast L last (least_at p) → IsEndAt p bytes
+  last_ended : (last : Option (List ℕ)) (p : Place) (bytes : List ℕ) → LetsEndLast L last (least_next p) → IsEndAt p bytes
       → FollowsLast last bytes
   last_ended None p bytes lets end = tt
   last_ended (Some s) p bytes lets end = lets bytes (end_blank p bytes end) (end_has p bytes end)
@@ -83,7 +83,7 @@ module _ {Inner : Type 0} (L : Language Inner) where
       → AreWell last bytes items
 
   text_shown : (items : List Item) → ShowsWell items → (last : Option (List ℕ)) (p : Place) (t bytes : List ℕ)
-      → LetsFollowLast L last (least_at p) t → AreApart L (Some t) after_text items → PassesGaps L
+      → LetsFollowLast L last (least_next p) t → AreApart L (Some t) after_text items → PassesGaps L
       → ShowsText (IsGapAt p) t bytes (λ rest. ShowsFrom after_text [] rest items)
       → AreWell last bytes (Shown t ∷ items)
   text_shown items later last p t bytes lets apart passes (g, rest, gap, is, shown) =
@@ -144,13 +144,13 @@ module _ {Inner : Type 0} (L : Language Inner) where
 
     pub set_apart : (items : List Item) (last : Option (List ℕ)) (p : Place) → IsOfTable last → AreAsAsked table last p items
         → AreApart L last p items
-    set_apart [] last p of asked = lets_end last (least_at p) of asked
+    set_apart [] last p of asked = lets_end last (least_next p) of asked
     set_apart (Shown t ∷ items) last p of asked =
-        (lets_follow last (least_at p) t of asked.0 asked.1, set_apart items (Some t) after_text asked.0 asked.2)
+        (lets_follow last (least_next p) t of asked.0 asked.1, set_apart items (Some t) after_text asked.0 asked.2)
     set_apart (Gap r l ∷ items) last p of asked = set_apart items last (with_gap r l p) of asked
     set_apart (Mark t ∷ items) last p of asked = (
       set_apart items last p of asked.0,
-      lets_follow last (least_at p) t of asked.1 asked.2,
+      lets_follow last (least_next p) t of asked.1 asked.2,
       set_apart items (Some t) after_text asked.1 asked.3,
     )
     set_apart (Late i ∷ items) last p of asked = absurd asked

@@ -1,2 +1,3 @@
 pub mod Neighbours
 pub mod ShownLaws
+pub mod Rows

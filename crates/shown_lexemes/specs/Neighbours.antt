@@ -7,9 +7,9 @@ use Rattle.text_lexemes.specs.Languages.{Language}
 use Rattle.text_lexemes.specs.SpacedTexts.{MayFollow}
 
 -- what the gap before the next text has at least
-abbrev pub least_at : Place → Least
-least_at (Before r) = Nothing
-least_at (After r l) = l
+abbrev pub least_next : Place → Least
+least_next (Before r) = Nothing
+least_next (After r l) = l
 
 -- what the gap after the last text has at least: a line end, or nothing
 abbrev pub EndHas : Least → List ℕ → Type 0
@@ -49,11 +49,11 @@ module _ {Inner : Type 0} (L : Language Inner) where
   -- After this text, at this place, each text of the items may come after the text before it and the gaps between them, by every
   -- choice of optional texts; and none is late.
   abbrev pub AreApart : Option (List ℕ) → Place → List Item → Type 0
-  AreApart last p [] = LetsEndLast last (least_at p)
-  AreApart last p (Shown t ∷ items) = LetsFollowLast last (least_at p) t × AreApart (Some t) after_text items
+  AreApart last p [] = LetsEndLast last (least_next p)
+  AreApart last p (Shown t ∷ items) = LetsFollowLast last (least_next p) t × AreApart (Some t) after_text items
   AreApart last p (Gap r l ∷ items) = AreApart last (with_gap r l p) items
   AreApart last p (Mark t ∷ items) =
-      AreApart last p items × LetsFollowLast last (least_at p) t × AreApart (Some t) after_text items
+      AreApart last p items × LetsFollowLast last (least_next p) t × AreApart (Some t) after_text items
   AreApart last p (Late i ∷ items) = ⊥
 
 -- ---- by a table
@@ -82,10 +82,10 @@ module _ {Inner : Type 0} {L : Language Inner} (table : Neighbours L) where
   -- each text is one of the table, and each gap between two has what the table asks for, by every choice of optional texts; and none
   -- is late
   abbrev pub AreAsAsked : Option (List ℕ) → Place → List Item → Type 0
-  AreAsAsked last p [] = HasLeastEnd last (least_at p)
+  AreAsAsked last p [] = HasLeastEnd last (least_next p)
   AreAsAsked last p (Shown t ∷ items) =
-      (table.is_whole t ≡ true) × HasLeast last (least_at p) t × AreAsAsked (Some t) after_text items
+      (table.is_whole t ≡ true) × HasLeast last (least_next p) t × AreAsAsked (Some t) after_text items
   AreAsAsked last p (Gap r l ∷ items) = AreAsAsked last (with_gap r l p) items
   AreAsAsked last p (Mark t ∷ items) =
-      AreAsAsked last p items × (table.is_whole t ≡ true) × HasLeast last (least_at p) t × AreAsAsked (Some t) after_text items
+      AreAsAsked last p items × (table.is_whole t ≡ true) × HasLeast last (least_next p) t × AreAsAsked (Some t) after_text items
   AreAsAsked last p (Late i ∷ items) = ⊥

@@ -2,5 +2,6 @@
 #![tactic(auto)]
 
 mod laws;
+pub mod rows;
 
 pub use laws::law_shown;

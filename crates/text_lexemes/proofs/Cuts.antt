@@ -93,7 +93,8 @@ module _ {Inner : Type 0} (L : Language Inner) where
       by_turn ends e = let clash : (x ∷ []) ∷ cut L between xs ≡ [] ∷ ss = sym (cut_turned i x xs ends e) ∙ h in absurd cc
       by_turn stops e = refl
 
-  pub part_cut : (s : List ℕ) (i : Inner) (rest : List ℕ) (ss : List (List ℕ)) → cut L (within i) (s ++ rest) ≡ s ∷ ss → EndsWithin L i s rest
+  pub part_cut : (s : List ℕ) (i : Inner) (rest : List ℕ) (ss : List (List ℕ)) → cut L (within i) (s ++ rest) ≡ s ∷ ss
+      → EndsWithin L i s rest
   part_cut [] i rest ss h = stops_there i rest ss h
   part_cut (x ∷ s) i rest ss h = by_turn (λ n. part_cut s n rest ss) (L.turn i x (s ++ rest)) refl
     where

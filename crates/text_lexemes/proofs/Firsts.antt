@@ -6,8 +6,8 @@ use Rattle.std.proofs.lemmas.List.{drop_more, drop_all, drop-drop, length-take-l
 use Rattle.std.proofs.lemmas.Str.{IsCharBoundary-after_ascii, IsCharBoundary-before_ascii, IsCharBoundary-end}
 use Rattle.std.specs.Str.{IsUtf8, IsCharBoundary}
 use Rattle.text_lexemes.specs.Languages.{Language, between, within, First, alone, begins, lengthened, cut}
-use Rattle.text_lexemes.specs.SpacedTexts.{after_gap, blanks, spaced_as, spaced_in}
-use Rattle.text_lexemes.specs.FirstLexemes.{IsFirst}
+use Rattle.text_lexemes.specs.SpacedTexts.{lexeme_after, blanks, spaced_as, spaced_in}
+use Rattle.text_lexemes.specs.FirstLexemes.{IsFirstLexeme}
 use Rattle.text_lexemes.proofs.Cuts.{cut_nil, cut_blank, cut_begun}
 use Rattle.text_lexemes.proofs.JoinedTexts.{blanks_cons, blanks_none}
 use Rattle.text_lexemes.proofs.Places.{part, part_more}
@@ -61,7 +61,7 @@ module _ (d : List ℕ) (place : ℕ) (lt : place < length d) (end : ℕ) (after
 module _ {Inner : Type 0} (L : Language Inner) (d : List ℕ) (place : ℕ) (lt : place < length d) where
   -- a byte that is a lexeme alone
   pub first_alone : (x : ℕ) → IsUtf8 d → get_or d place 0 ≡ x → L.is_blank x ≡ false → L.first x ≡ alone → x < 128
-      → IsFirst L d place (x ∷ [])
+      → IsFirstLexeme L d place (x ∷ [])
   first_alone x utf8 here blank is ascii =
       record {
         some = omega arith;
@@ -75,7 +75,7 @@ module _ {Inner : Type 0} (L : Language Inner) (d : List ℕ) (place : ℕ) (lt 
   pub first_slice : (end : ℕ) (after : place + 1 ≤ end) (inside : end ≤ length d) (i : Inner) → L.is_blank (get_or d place 0) ≡ false
       → L.first (get_or d place 0) ≡ begins i
       → cut L (within i) (drop (place + 1) d) ≡ tail d place lt end after inside ∷ cut L between (drop end d)
-      → IsCharBoundary d end → IsFirst L d place (slice d place lt end after inside)
+      → IsCharBoundary d end → IsFirstLexeme L d place (slice d place lt end after inside)
   first_slice end after inside i blank begun rest boundary =
       let ends = slice_end d place lt end after inside in
       let is = slice_is d place lt end after inside in
@@ -125,17 +125,18 @@ module _ {Inner : Type 0} (L : Language Inner) (d : List ℕ) where
 
     -- the next lexeme with its gap, where these blanks stand before it
     pub next_spaced : (s : List ℕ) → place ≤ length d → blanks L (drop from d) ≡ take (place - from) (drop from d)
-        → cut L between (drop place d) ≡ cut L between (drop from d) → IsFirst L d place s
-        → spaced_in L (drop from d) ≡ after_gap (take (place - from) (drop from d)) s ∷ spaced_in L (drop (place + length s) d)
+        → cut L between (drop place d) ≡ cut L between (drop from d) → IsFirstLexeme L d place s
+        → spaced_in L (drop from d) ≡ lexeme_after (take (place - from) (drop from d)) s ∷ spaced_in L (drop (place + length s) d)
     next_spaced s inside gap same first =
         let before = part d from place le in
         let rest = cut L between (drop (place + length s) d) in
         let long : from + (length before + length s) ≡ place + length s =
         omega (arith, length-take-le (place - from) (drop from d) (omega (arith, length-drop from d))) in
         ap (spaced_as L (drop from d)) (sym same ∙ first.cuts)
-        ∙ ap (λ g. after_gap g s ∷ spaced_as L (drop (length g + length s) (drop from d)) rest) gap
-        ∙ ap (λ l. after_gap before s ∷ spaced_as L l rest) (drop-drop (length before + length s) from d ∙ ap (λ n. drop n d) long)
+        ∙ ap (λ g. lexeme_after g s ∷ spaced_as L (drop (length g + length s) (drop from d)) rest) gap
+        ∙ ap (λ l. lexeme_after before s ∷ spaced_as L l rest) (drop-drop (length before + length s) from d ∙ ap (λ n. drop n d) long)
 
 -- the end, where no lexeme is left
-pub last_spaced : {Inner : Type 0} (L : Language Inner) (bytes : List ℕ) → cut L between bytes ≡ [] → spaced_in L bytes ≡ after_gap bytes [] ∷ []
+pub last_spaced : {Inner : Type 0} (L : Language Inner) (bytes : List ℕ) → cut L between bytes ≡ []
+    → spaced_in L bytes ≡ lexeme_after bytes [] ∷ []
 last_spaced L bytes none = ap (spaced_as L bytes) none

@@ -7,7 +7,8 @@ use Rattle.std.proofs.lemmas.List.Elements.{All-from_recursion}
 use Rattle.text_lexemes.specs.Languages.{First, alone, begins, Turn, goes_on, ends, stops, LexerMode, between, within, Language}
 use Rattle.text_lexemes.specs.Languages.{lengthened, cut_first, cut_turn, cut, IsLexeme}
 use Rattle.text_lexemes.specs.SpacedTexts.{OnTurn, OnFirst, IsSpacedText, EndsWithin, MayFollow, IsWellSpaced, IsLocal}
-use Rattle.text_lexemes.proofs.Cuts.{shortened, some_cut, cut_nil, cut_inside_nil, cut_blank, cut_begun, cut_turned, cut_lexeme, cut_gap, part_cut}
+use Rattle.text_lexemes.proofs.Cuts.{shortened, some_cut, cut_nil, cut_inside_nil, cut_blank, cut_begun, cut_turned}
+use Rattle.text_lexemes.proofs.Cuts.{cut_lexeme, cut_gap, part_cut}
 
 module _ {Inner : Type 0} (L : Language Inner) where
   -- the text goes on with what is left of a lexeme, and then with the others
@@ -104,7 +105,9 @@ module _ {Inner : Type 0} (L : Language Inner) where
     where
       by_first : L.is_blank x ≡ false → (f : First Inner) → L.first x ≡ f → OnFirst f s (λ i. EndsWithin L i s rest)
       by_first b alone f =
-          let same : (x ∷ []) ∷ cut L between (s ++ rest) ≡ (x ∷ s) ∷ cut L between rest = sym (cut_begun L x (s ++ rest) alone b f) ∙ e in cc
+          let same : (x ∷ []) ∷ cut L between (s ++ rest) ≡ (x ∷ s) ∷ cut L between rest =
+          sym (cut_begun L x (s ++ rest) alone b f) ∙ e in
+          cc
       by_first b (begins i) f =
           part_cut L s i rest (cut L between rest)
           (shortened x s (cut L (within i) (s ++ rest)) (cut L between rest) (some_cut L i (s ++ rest))
@@ -148,7 +151,8 @@ module _ {Inner : Type 0} (L : Language Inner) where
       (lexeme_alone s (alone_too local s rest follows), each_alone local ss rest h)
 
   pub lexemes_alone : IsLocal L → (text : List ℕ) → All (IsLexeme L) (cut L between text)
-  lexemes_alone local text = All-from_recursion (IsLexeme L) (cut L between text) (each_alone local (cut L between text) text (well_spaced text))
+  lexemes_alone local text =
+      All-from_recursion (IsLexeme L) (cut L between text) (each_alone local (cut L between text) text (well_spaced text))
 
   not_empty : (s rest : List ℕ) → MayFollow L s rest → s ≢ []
   not_empty s rest h e = subst (λ t. MayFollow L t rest) e h

@@ -4,7 +4,7 @@ use Rattle.std.specs.Str.{IsCharBoundary}
 use Rattle.text_lexemes.specs.Languages.{Language, lexemes_in}
 
 -- the first lexeme from a place of the text on, after which the others come
-pub record IsFirst {Inner : Type 0} (L : Language Inner) (text : List ℕ) (place : ℕ) (lexeme : List ℕ) : Type 0 where
+pub record IsFirstLexeme {Inner : Type 0} (L : Language Inner) (text : List ℕ) (place : ℕ) (lexeme : List ℕ) : Type 0 where
   pub some : 0 < length lexeme
   pub within : place + length lexeme ≤ length text
   pub boundary : IsCharBoundary text (place + length lexeme)

@@ -3,3 +3,4 @@ pub mod Languages
 pub mod SpacedTexts
 pub mod FirstLexemes
 pub mod LexemeLaws
+pub mod Rows

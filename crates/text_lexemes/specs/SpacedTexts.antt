@@ -3,18 +3,18 @@ use Rattle.std.specs.Prelude.{◌≡◌, ℕ, ◌+◌, true, false, List, [], �
 use Rattle.text_lexemes.specs.Languages.{First, alone, begins, Turn, goes_on, ends, stops, Language, lexemes_in}
 
 -- a lexeme after its gap; at the end of the text the last gap, and an empty lexeme
-pub record Spaced : Type 0 where
+pub record SpacedLexeme : Type 0 where
   pub gap : List ℕ
   pub lexeme : List ℕ
 
 -- the lexeme after the gap
-abbrev pub after_gap : List ℕ → List ℕ → Spaced
-after_gap g s = record { gap = g; lexeme = s }
+abbrev pub lexeme_after : List ℕ → List ℕ → SpacedLexeme
+lexeme_after g s = record { gap = g; lexeme = s }
 
 -- the bytes of gaps and lexemes
-abbrev pub put_together : List Spaced → List ℕ
-put_together [] = []
-put_together (p ∷ ps) = p.gap ++ (p.lexeme ++ put_together ps)
+abbrev pub joined_text : List SpacedLexeme → List ℕ
+joined_text [] = []
+joined_text (p ∷ ps) = p.gap ++ (p.lexeme ++ joined_text ps)
 
 -- what holds after a byte of a lexeme, of which these bytes are left: it goes on so, or none is left
 abbrev pub OnTurn : {Inner : Type 0} → Turn Inner → List ℕ → (Inner → Type 0) → Type 0
@@ -39,12 +39,12 @@ module _ {Inner : Type 0} (L : Language Inner) where
   blanks (x ∷ xs) = cond (L.is_blank x) (x ∷ blanks xs) []
 
   -- the lexemes that these bytes are, each after the blanks before it, and then the end
-  abbrev pub spaced_as : List ℕ → List (List ℕ) → List Spaced
-  spaced_as bytes [] = after_gap bytes [] ∷ []
-  spaced_as bytes (s ∷ ss) = after_gap (blanks bytes) s ∷ spaced_as (drop (length (blanks bytes) + length s) bytes) ss
+  abbrev pub spaced_as : List ℕ → List (List ℕ) → List SpacedLexeme
+  spaced_as bytes [] = lexeme_after bytes [] ∷ []
+  spaced_as bytes (s ∷ ss) = lexeme_after (blanks bytes) s ∷ spaced_as (drop (length (blanks bytes) + length s) bytes) ss
 
   -- the lexemes of a text, each after its gap, and then the end
-  abbrev pub spaced_in : List ℕ → List Spaced
+  abbrev pub spaced_in : List ℕ → List SpacedLexeme
   spaced_in text = spaced_as text (lexemes_in L text)
 
   -- bytes that are these texts in their order, with gaps before, between and after them, any of which may be empty

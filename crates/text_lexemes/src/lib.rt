@@ -3,6 +3,7 @@
 
 mod laws;
 mod place;
+pub mod rows;
 
 pub use laws::{law_following, law_gaps, law_joined, law_spacing};
 pub use place::{Place, place_at};

@@ -10,7 +10,7 @@ use Rattle.prettyless_model.specs.Shows.{Item, Shown, Mark, LineEnd, more, shows
 use Rattle.prettyless_shapes.specs.Items.{ShowsBoth, ShowsMore}
 use Rattle.prettyless_laws.specs.Shown.{text_items}
 use Rattle.toml_lexemes.specs.Bytes.{comma, hash, head, line_feed}
-use Rattle.toml_lexemes.specs.Lexemes.{cut_toml}
+use Rattle.text_lexemes.specs.Languages.{cut}
 use Rattle.toml_lexemes.specs.Statements.{Role, a_comment, a_closing, role, trimmed, before_trimmed, Collected, line_ended, with_lexeme}
 use Rattle.toml_lexemes.specs.Statements.{with_lexemes}
 use Rattle.toml_lexemes.specs.Shown.{Stage, IsWholeLexeme, EndsWell, AreRead, least_between}
@@ -32,7 +32,7 @@ clash : {b : Bool} → b ≡ true → b ≡ false → ⊥
 clash p q = cc
 
 pub comma_is_whole : IsWholeLexeme (comma ∷ [])
-unfolding cut_toml
+unfolding cut
 comma_is_whole = record { alone = refl; ends = record { ended = tt; apart = λ h. absurd (cc) } }
 
 -- a text that begins with `#`

@@ -110,7 +110,8 @@ follows_one x xs e =
       apart = λ m is. let clash : between ≡ within in_comment = sym (ap mode_first e) ∙ m in cc;
     }
 
-follows_begun : (x : ℕ) (i : Inner) (s rest : List ℕ) → first x ≡ begins i → (s ≡ [] → x ≡ 13 → ⊥) → IsPart i s rest → MayFollow (x ∷ s) rest
+follows_begun : (x : ℕ) (i : Inner) (s rest : List ℕ) → first x ≡ begins i → (s ≡ [] → x ≡ 13 → ⊥) → IsPart i s rest
+    → MayFollow (x ∷ s) rest
 follows_begun x i [] rest e differs part =
     record {
       ended = subst (λ m. EndsBefore m rest) (sym (ap mode_first e)) part.ended;

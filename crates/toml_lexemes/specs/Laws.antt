@@ -5,18 +5,6 @@ use Rattle.toml_lexemes.specs.Lexemes.{toml_lexemes_of}
 use Rattle.toml_lexemes.specs.SpacedLexemes.{toml_spaced_lexemes, toml_put_together}
 use Rattle.toml_lexemes.specs.Spaced.{IsTomlGap, IsSpacedToml, EndsWithReturn, MayFollow, IsWellSpaced, begins_line_end}
 
--- a text is its lexemes with gaps around them
-abbrev pub TomlTextsAreSpacedLexemes : Type 0
-TomlTextsAreSpacedLexemes = (text : List ℕ) → IsSpacedToml text (toml_lexemes_of text)
-
--- no lexeme is empty
-abbrev pub TomlLexemesAreNotEmpty : Type 0
-TomlLexemesAreNotEmpty = (text : List ℕ) → All (λ s. s ≢ []) (toml_lexemes_of text)
-
--- each lexeme of a text, as a text of its own, is that lexeme alone
-abbrev pub LexemesStandAlone : Type 0
-LexemesStandAlone = (text : List ℕ) → All (λ s. toml_lexemes_of s ≡ s ∷ []) (toml_lexemes_of text)
-
 -- texts that are one lexeme each, with gaps around them and after each what may follow it, have themselves as lexemes
 abbrev pub GapsKeepLexemes : Type 0
 GapsKeepLexemes =
@@ -25,18 +13,6 @@ GapsKeepLexemes =
 -- after each lexeme of a text stands what may follow it
 abbrev pub TextsAreWellSpaced : Type 0
 TextsAreWellSpaced = (text : List ℕ) → IsWellSpaced text (toml_lexemes_of text)
-
--- the gaps and lexemes of a text in their order, put together, are the text
-abbrev pub TomlTextsAreJoined : Type 0
-TomlTextsAreJoined = (text : List ℕ) → toml_put_together (toml_spaced_lexemes text) ≡ text
-
--- each gap is blanks alone
-abbrev pub GapsAreBlanks : Type 0
-GapsAreBlanks = (text : List ℕ) → All (λ p. IsTomlGap p.gap) (toml_spaced_lexemes text)
-
--- after the gaps stand the lexemes of the text, and then the end
-abbrev pub SpacedAreTomlLexemes : Type 0
-SpacedAreTomlLexemes = (text : List ℕ) → map (λ p. p.lexeme) (toml_spaced_lexemes text) ≡ toml_lexemes_of text ++ [] ∷ []
 
 -- ---- what may follow a lexeme
 

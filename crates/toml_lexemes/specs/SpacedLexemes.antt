@@ -5,11 +5,11 @@ use Rattle.toml_lexemes.specs.Lexemes.{toml}
 
 -- a lexeme after its gap; at the end of the text the last gap, and an empty lexeme
 abbrev pub SpacedToml : Type 0
-SpacedToml = spaced.Spaced
+SpacedToml = spaced.SpacedLexeme
 
 -- the lexeme after the gap
 abbrev pub after_toml_gap : List ℕ → List ℕ → SpacedToml
-after_toml_gap g s = spaced.after_gap g s
+after_toml_gap g s = spaced.lexeme_after g s
 
 -- the blanks that the bytes begin with
 abbrev pub blanks : List ℕ → List ℕ
@@ -25,4 +25,4 @@ toml_spaced_lexemes bytes = spaced.spaced_in toml bytes
 
 -- the bytes of gaps and lexemes
 abbrev pub toml_put_together : List SpacedToml → List ℕ
-toml_put_together ps = spaced.put_together ps
+toml_put_together ps = spaced.joined_text ps

@@ -1,7 +1,7 @@
 ghost use Rattle.std.specs.Prelude.{◌≡◌, ◌+◌, ◌-◌, ◌<◌, ◌≤◌, ◌⊎◌, ◌∷◌, false, length, take, drop, slice_index};
 ghost use Rattle.std.specs.Str.{IsCharBoundary};
 ghost use Rattle.toml_lexemes.specs.Bytes as ascii;
-ghost use Rattle.text_lexemes.specs.FirstLexemes.{IsFirst};
+ghost use Rattle.text_lexemes.specs.FirstLexemes.{IsFirstLexeme};
 ghost use Rattle.text_lexemes.specs.Languages.{begins, between, within};
 ghost use Rattle.toml_lexemes.specs.Lexemes.{begins_line_feed, cut_toml, first, toml};
 ghost use Rattle.toml_lexemes.specs.Modes.{inner_of, is_after_quote};
@@ -68,7 +68,7 @@ fn slice_at<'a>(text: &'a str, place: usize, begun: LexerMode) -> &'a str
     requires begun { is_after_quote (inner_of begun) ≡ false }
     requires blank { ascii.is_blank (slice_index text.now place) ≡ false }
     requires begins { first (slice_index text.now place) ≡ begins (inner_of begun) }
-    ensures first { IsFirst toml text.now place result.now }
+    ensures first { IsFirstLexeme toml text.now place result.now }
     ensures head { ascii.head result.now ≡ slice_index text.now place }
 {
     &text[place..lexeme_end(text.as_bytes(), place + 1, begun)]
@@ -80,7 +80,7 @@ pub(crate) fn lexeme_at<'a>(text: &'a str, place: usize) -> Lexeme<'a>
     requires within { place < length text.now }
     requires boundary { IsCharBoundary text.now place }
     requires begins { ascii.is_blank (slice_index text.now place) ≡ false }
-    ensures first { IsFirst toml text.now place (toml_text_of result) }
+    ensures first { IsFirstLexeme toml text.now place (toml_text_of result) }
     ensures named { HasTomlKind result }
 {
     match text.as_bytes()[place] {

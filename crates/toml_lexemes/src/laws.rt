@@ -1,29 +1,30 @@
 ghost use Rattle.toml_lexemes.specs.Laws.{BlankMayFollow, EndMayFollow, FirstByteDecides, LineFeedMayFollow};
 ghost use Rattle.toml_lexemes.specs.Laws.{CommentsAreEnded, SignsAreEnded, WordsAreEnded};
-ghost use Rattle.toml_lexemes.specs.Laws.{GapsKeepLexemes, LexemesStandAlone, TextsAreWellSpaced};
-ghost use Rattle.toml_lexemes.specs.Laws.{TomlLexemesAreNotEmpty, TomlTextsAreSpacedLexemes};
-ghost use Rattle.toml_lexemes.specs.Laws.{GapsAreBlanks, SpacedAreTomlLexemes, TomlTextsAreJoined};
+ghost use Rattle.text_lexemes.specs.LexemeLaws.{GapsAndLexemesAreTexts, GapsAreBlanks, LexemesAreSome, LexemesStandAfterGaps};
+ghost use Rattle.text_lexemes.specs.LexemeLaws.{LexemesStandAlone, TextsAreSpaced};
+ghost use Rattle.toml_lexemes.specs.Laws.{GapsKeepLexemes, TextsAreWellSpaced};
+ghost use Rattle.toml_lexemes.specs.Lexemes.{toml};
 ghost use Rattle.toml_lexemes.specs.StatementLaws.{ClosedTextsAreSound, GapsKeepStatements, LexemesAreSaid};
 ghost use Rattle.toml_lexemes.specs.StatementLaws.{LineEndsDivide, LineEndsSayNothing, ShownAsRead};
 
 /// A text is its lexemes in their order, with nothing but blanks before, between and after them. No lexeme is empty.
 pub fn law_spacing()
-    ensures spaced { TomlTextsAreSpacedLexemes }
-    ensures some { TomlLexemesAreNotEmpty }
+    ensures spaced { TextsAreSpaced toml }
+    ensures some { LexemesAreSome toml }
 {}
 
 /// The lexemes with their gaps are the text, put together. Each gap is blanks alone, and the lexemes are those of the text.
 pub fn law_joined()
-    ensures joined { TomlTextsAreJoined }
-    ensures blanks { GapsAreBlanks }
-    ensures lexemes { SpacedAreTomlLexemes }
+    ensures joined { GapsAndLexemesAreTexts toml }
+    ensures blanks { GapsAreBlanks toml }
+    ensures lexemes { LexemesStandAfterGaps toml }
 {}
 
 /// Lexemes with any gaps of blanks around them, and after each what may follow it, are a text of the same lexemes. Each
 /// lexeme of a text is one, and has after it there what may follow it.
 pub fn law_gaps()
     ensures kept { GapsKeepLexemes }
-    ensures alone { LexemesStandAlone }
+    ensures alone { LexemesStandAlone toml }
     ensures well_spaced { TextsAreWellSpaced }
 {}
 

@@ -1,6 +1,6 @@
 use Rattle.std.proofs.Common.{◌+◌, ◌≤◌, length, sym, ◌∙◌, subst, ap}
 use Rattle.toml_lexemes.specs.Bytes.{head}
-use Rattle.text_lexemes.specs.FirstLexemes.{IsFirst}
+use Rattle.text_lexemes.specs.FirstLexemes.{IsFirstLexeme}
 use Rattle.toml_lexemes.specs.Lexemes.{toml}
 use Rattle.toml_lexemes.specs.Modes.{inner_of}
 use Rattle.text_lexemes.proofs.Firsts.{boundary_at, first_slice, slice_is}
@@ -19,7 +19,7 @@ returns-clause-first c =
     let same = c.as_bytes.ensures.value in
     let within : end ≤ length d = rw (← same) c.lexeme_end.ensures.bounds.1 in
     let boundary = boundary_at d (c.args.place + 1) end c.utf8.text within (rw (← same) c.lexeme_end.ensures.ended) in
-    subst (IsFirst toml d c.args.place) (sym c.range.ensures.value)
+    subst (IsFirstLexeme toml d c.args.place) (sym c.range.ensures.value)
     (first_slice toml d c.args.place c.requires.within end c.lexeme_end.ensures.bounds.0 within (inner_of c.args.begun) c.requires.blank c.requires.begins
     (rw (← same) c.lexeme_end.ensures.cut) boundary)
 
