@@ -6,7 +6,7 @@ ghost use Rattle.json_formatter.specs.Documents.{closes, is_json_sign, next_is, 
 ghost use Rattle.json_formatter.specs.Pieces.{begins_line, pieces_of};
 ghost use Rattle.json_formatter.specs.PieceTexts.{piece_text, IsPiece};
 
-use crate::piece::Piece;
+use crate::piece::JsonPiece;
 use json_lexemes::{Lexeme, SpacedLexer, has_line_end};
 use std::marker::Model;
 
@@ -87,14 +87,14 @@ impl<'a> Ahead<'a> {
 
     /// Takes the next piece, or answers `None` where none is left.
     #[inline(always)]
-    pub(crate) fn next(&mut self) -> Option<Piece<'a>>
+    pub(crate) fn next(&mut self) -> Option<JsonPiece<'a>>
         ensures next { MatchOption result ((self.old ≡ []) × (self.new ≡ []))
             (λ piece. self.old ≡ piece_text piece ∷ self.new) }
         ensures kind { IfSome result IsPiece }
     {
         let lexeme = self.lexer.next()?;
         let breaks = keeps_broken(self.compact, lexeme, &self.lexer);
-        Some(Piece::new(lexeme, breaks))
+        Some(JsonPiece::new(lexeme, breaks))
     }
 
     /// Whether nothing is left of the list that is open here but what closes it.

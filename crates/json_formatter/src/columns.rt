@@ -5,7 +5,7 @@ ghost use Rattle.json_formatter.specs.Flat.{piece_columns};
 ghost use Rattle.json_formatter.specs.PieceTexts.{piece_text, IsPiece};
 
 use crate::ahead::Ahead;
-use crate::piece::Piece;
+use crate::piece::JsonPiece;
 use prettyless_text::measure::{is_ascii, text_width};
 use std::simd::prelude::*;
 
@@ -69,12 +69,12 @@ fn columns(text: &str) -> usize
 
 /// The columns of a piece without a line end.
 #[inline(always)]
-pub(crate) fn text_columns(piece: Piece<'_>) -> usize
+pub(crate) fn text_columns(piece: JsonPiece<'_>) -> usize
     requires { IsPiece piece }
     ensures { result ≡ text_width (lexeme_of (piece_text piece.entry)) }
 {
     match piece {
-        Piece::String(text) | Piece::Word(text) => columns(text),
+        JsonPiece::String(text) | JsonPiece::Word(text) => columns(text),
         _ => 1,
     }
 }
@@ -84,16 +84,16 @@ pub(crate) fn text_columns(piece: Piece<'_>) -> usize
 ///
 /// `None` where it is a bracket whose list is kept broken: that is wider than any line.
 #[inline]
-pub(crate) fn piece_columns(compact: bool, piece: Piece<'_>, later: &Ahead<'_>) -> Option<usize>
+pub(crate) fn piece_columns(compact: bool, piece: JsonPiece<'_>, later: &Ahead<'_>) -> Option<usize>
     requires { IsPiece piece }
     ensures { MatchOption result (greatest_width ≤ piece_columns compact (piece_text piece.entry) later.now)
         (λ columns. columns ≡ piece_columns compact (piece_text piece.entry) later.now) }
 {
     match piece {
-        Piece::OpenObject(true) | Piece::OpenArray(true) => None,
-        Piece::OpenObject(false) if !compact && !later.is_at_end() => Some(3),
-        Piece::Comma | Piece::Colon => Some(2),
-        Piece::String(text) | Piece::Word(text) => Some(columns(text)),
+        JsonPiece::OpenObject(true) | JsonPiece::OpenArray(true) => None,
+        JsonPiece::OpenObject(false) if !compact && !later.is_at_end() => Some(3),
+        JsonPiece::Comma | JsonPiece::Colon => Some(2),
+        JsonPiece::String(text) | JsonPiece::Word(text) => Some(columns(text)),
         _ => Some(1),
     }
 }

@@ -16,7 +16,7 @@ use crate::ahead::Ahead;
 use crate::columns::{piece_columns, text_columns};
 use crate::kept::Kept;
 use crate::kind::{closes, is_comma, may_fill, opens};
-use crate::piece::Piece;
+use crate::piece::JsonPiece;
 use crate::spelling::{Spelled, Spelling};
 use crate::style::{Fill, Style};
 use crate::window::Pieces;
@@ -99,7 +99,7 @@ fn all_fill(fill: Fill, mut pieces: Ahead<'_>) -> bool
 
 // Whether the list that is opened at a column stays within the width, with a comma that comes after it.
 #[inline(always)]
-fn list_fits(pieces: &mut Pieces<'_>, style: Style, column: usize, opening: Piece<'_>) -> bool
+fn list_fits(pieces: &mut Pieces<'_>, style: Style, column: usize, opening: JsonPiece<'_>) -> bool
     requires bounded { style.width < greatest_width }
     requires piece { IsPiece opening }
     ensures same { pieces.new ≡ pieces.old }
@@ -119,7 +119,7 @@ fn list_fits(pieces: &mut Pieces<'_>, style: Style, column: usize, opening: Piec
 
 // Whether a number fits the line after a space, with its comma.
 #[inline(always)]
-fn number_fits(style: Style, column: usize, piece: Piece<'_>, comma: bool) -> bool
+fn number_fits(style: Style, column: usize, piece: JsonPiece<'_>, comma: bool) -> bool
     requires { IsPiece piece }
     ensures { result ≡ number_fits style column (piece_text piece.entry) comma }
 {
@@ -129,7 +129,7 @@ fn number_fits(style: Style, column: usize, piece: Piece<'_>, comma: bool) -> bo
 
 // The gap before a piece of a list on one line.
 #[inline(always)]
-fn flat_gap(style: Style, joint: Joint, piece: Piece<'_>) -> Gap
+fn flat_gap(style: Style, joint: Joint, piece: JsonPiece<'_>) -> Gap
     requires { IsPiece piece }
     ensures { result ≡ flat_gap style joint (piece_text piece.entry) }
 {
@@ -137,20 +137,20 @@ fn flat_gap(style: Style, joint: Joint, piece: Piece<'_>) -> Gap
         Joint::Space => Gap::Space,
         Joint::Brace if !style.compact && !closes(piece) => Gap::Space,
         Joint::Brace => Gap::Nothing,
-        _ if !style.compact && matches!(piece, Piece::CloseObject) => Gap::Space,
+        _ if !style.compact && matches!(piece, JsonPiece::CloseObject) => Gap::Space,
         _ => Gap::Nothing,
     }
 }
 
 // What joins the next piece to one of a list on one line.
 #[inline(always)]
-fn flat_joint(piece: Piece<'_>) -> Joint
+fn flat_joint(piece: JsonPiece<'_>) -> Joint
     requires { IsPiece piece }
     ensures { result ≡ flat_joint (piece_text piece.entry) }
 {
     match piece {
-        Piece::Comma | Piece::Colon => Joint::Space,
-        Piece::OpenObject(_) => Joint::Brace,
+        JsonPiece::Comma | JsonPiece::Colon => Joint::Space,
+        JsonPiece::OpenObject(_) => Joint::Brace,
         _ => Joint::Nothing,
     }
 }
@@ -170,14 +170,18 @@ fn gap_end(column: usize, gap: Gap) -> usize
 impl State {
     // Goes past a piece of a list on one line.
     #[inline(always)]
-    fn pass_flat(&mut self, piece: Piece<'_>)
+    fn pass_flat(&mut self, piece: JsonPiece<'_>)
         requires { IsPiece piece }
         ensures { self.new ≡ flat_after self.old (piece_text piece.entry) }
     {
         self.joint = flat_joint(piece);
         match piece {
-            Piece::OpenObject(_) | Piece::OpenArray(_) => self.flat = self.flat.saturating_add(1),
-            Piece::CloseObject | Piece::CloseArray => self.flat = self.flat.saturating_sub(1),
+            JsonPiece::OpenObject(_) | JsonPiece::OpenArray(_) => self.flat = self
+                .flat
+                .saturating_add(1),
+            JsonPiece::CloseObject | JsonPiece::CloseArray => self.flat = self
+                .flat
+                .saturating_sub(1),
             _ => {}
         }
     }
@@ -203,7 +207,7 @@ impl State {
 
     // The gap before a value or a key, after whose first piece these come.
     #[inline(always)]
-    fn value_gap(&self, style: Style, piece: Piece<'_>, pieces: &Pieces<'_>) -> Gap
+    fn value_gap(&self, style: Style, piece: JsonPiece<'_>, pieces: &Pieces<'_>) -> Gap
         requires { IsPiece piece }
         ensures { result ≡ value_gap style self.now self.now.joint (piece_text piece.entry) (next_is (is_json_sign comma) pieces.now) }
     {
@@ -219,7 +223,13 @@ impl State {
 
     // Goes past the bracket that opens a list at a column.
     #[inline(always)]
-    fn open_at(&mut self, style: Style, column: usize, opening: Piece<'_>, pieces: &mut Pieces<'_>)
+    fn open_at(
+        &mut self,
+        style: Style,
+        column: usize,
+        opening: JsonPiece<'_>,
+        pieces: &mut Pieces<'_>,
+    )
         requires bounded { style.width < greatest_width }
         requires piece { IsPiece opening }
         ensures same { pieces.new ≡ pieces.old }
@@ -232,13 +242,14 @@ impl State {
             return;
         }
         self.depth = self.depth.saturating_add(1);
-        self.fills = matches!(opening, Piece::OpenArray(_)) && all_fill(style.fill, pieces.again());
+        self.fills = matches!(opening, JsonPiece::OpenArray(_))
+            && all_fill(style.fill, pieces.again());
         self.joint = Joint::Line;
     }
 
     // The column after a word or a key that begins at a column. It isn't counted where a comma comes next, and then a new line.
     #[inline(always)]
-    fn word_end(&self, column: usize, piece: Piece<'_>, pieces: &Pieces<'_>) -> usize
+    fn word_end(&self, column: usize, piece: JsonPiece<'_>, pieces: &Pieces<'_>) -> usize
         requires { IsPiece piece }
         ensures { result ≡ word_end self.now.fills column (piece_text piece.entry) pieces.now }
     {
@@ -251,7 +262,13 @@ impl State {
 
     // Goes past the first piece of a value, or a key, at a column.
     #[inline(always)]
-    fn value_at(&mut self, style: Style, column: usize, piece: Piece<'_>, pieces: &mut Pieces<'_>)
+    fn value_at(
+        &mut self,
+        style: Style,
+        column: usize,
+        piece: JsonPiece<'_>,
+        pieces: &mut Pieces<'_>,
+    )
         requires bounded { style.width < greatest_width }
         requires piece { IsPiece piece }
         ensures same { pieces.new ≡ pieces.old }
@@ -267,7 +284,7 @@ impl State {
 
     // The gap before a value or a key. Goes past its first piece.
     #[inline(always)]
-    fn value(&mut self, style: Style, piece: Piece<'_>, pieces: &mut Pieces<'_>) -> Gap
+    fn value(&mut self, style: Style, piece: JsonPiece<'_>, pieces: &mut Pieces<'_>) -> Gap
         requires bounded { style.width < greatest_width }
         requires piece { IsPiece piece }
         ensures same { pieces.new ≡ pieces.old }
@@ -282,7 +299,7 @@ impl State {
 
     // The gap before a piece, after which these come. Goes past it.
     #[inline(always)]
-    fn step(&mut self, style: Style, piece: Piece<'_>, pieces: &mut Pieces<'_>) -> Gap
+    fn step(&mut self, style: Style, piece: JsonPiece<'_>, pieces: &mut Pieces<'_>) -> Gap
         requires bounded { style.width < greatest_width }
         requires piece { IsPiece piece }
         ensures same { pieces.new ≡ pieces.old }
@@ -295,19 +312,19 @@ impl State {
             return gap;
         }
         match piece {
-            Piece::Comma if self.fills => {
+            JsonPiece::Comma if self.fills => {
                 self.pass_mark(Joint::Fill);
                 Gap::Nothing
             }
-            Piece::Comma => {
+            JsonPiece::Comma => {
                 self.pass_mark(Joint::Line);
                 Gap::Nothing
             }
-            Piece::Colon => {
+            JsonPiece::Colon => {
                 self.pass_mark(Joint::Space);
                 Gap::Nothing
             }
-            Piece::CloseObject | Piece::CloseArray => {
+            JsonPiece::CloseObject | JsonPiece::CloseArray => {
                 let indent = indent_at(style, self.depth.saturating_sub(1));
                 self.pass_close();
                 Gap::Line(indent)

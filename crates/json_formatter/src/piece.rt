@@ -9,7 +9,7 @@ use json_lexemes::Lexeme;
 
 /// A lexeme of a text. Where it opens a list it says whether that is kept broken.
 #[derive(Clone, Copy)]
-pub(crate) enum Piece<'a> {
+pub(crate) enum JsonPiece<'a> {
     OpenObject(bool),
     CloseObject,
     OpenArray(bool),
@@ -20,24 +20,24 @@ pub(crate) enum Piece<'a> {
     Word(&'a str),
 }
 
-impl<'a> Piece<'a> {
+impl<'a> JsonPiece<'a> {
     /// This lexeme, and where it opens a list whether that is kept broken.
     #[inline(always)]
-    pub(crate) fn new(lexeme: Lexeme<'a>, breaks: bool) -> Piece<'a>
+    pub(crate) fn new(lexeme: Lexeme<'a>, breaks: bool) -> JsonPiece<'a>
         requires { IsNamed lexeme }
         ensures text { piece_text result
             ≡ (if opens (text_of lexeme.entry) then text_of lexeme.entry ++ line_end_if breaks else text_of lexeme.entry) }
         ensures kind { IsPiece result }
     {
         match lexeme {
-            Lexeme::OpenObject => Piece::OpenObject(breaks),
-            Lexeme::CloseObject => Piece::CloseObject,
-            Lexeme::OpenArray => Piece::OpenArray(breaks),
-            Lexeme::CloseArray => Piece::CloseArray,
-            Lexeme::Comma => Piece::Comma,
-            Lexeme::Colon => Piece::Colon,
-            Lexeme::String(text) => Piece::String(text),
-            Lexeme::Word(text) => Piece::Word(text),
+            Lexeme::OpenObject => JsonPiece::OpenObject(breaks),
+            Lexeme::CloseObject => JsonPiece::CloseObject,
+            Lexeme::OpenArray => JsonPiece::OpenArray(breaks),
+            Lexeme::CloseArray => JsonPiece::CloseArray,
+            Lexeme::Comma => JsonPiece::Comma,
+            Lexeme::Colon => JsonPiece::Colon,
+            Lexeme::String(text) => JsonPiece::String(text),
+            Lexeme::Word(text) => JsonPiece::Word(text),
         }
     }
 
@@ -49,14 +49,14 @@ impl<'a> Piece<'a> {
         ensures named { IsNamed result }
     {
         match self {
-            Piece::OpenObject(_) => Lexeme::OpenObject,
-            Piece::CloseObject => Lexeme::CloseObject,
-            Piece::OpenArray(_) => Lexeme::OpenArray,
-            Piece::CloseArray => Lexeme::CloseArray,
-            Piece::Comma => Lexeme::Comma,
-            Piece::Colon => Lexeme::Colon,
-            Piece::String(text) => Lexeme::String(text),
-            Piece::Word(text) => Lexeme::Word(text),
+            JsonPiece::OpenObject(_) => Lexeme::OpenObject,
+            JsonPiece::CloseObject => Lexeme::CloseObject,
+            JsonPiece::OpenArray(_) => Lexeme::OpenArray,
+            JsonPiece::CloseArray => Lexeme::CloseArray,
+            JsonPiece::Comma => Lexeme::Comma,
+            JsonPiece::Colon => Lexeme::Colon,
+            JsonPiece::String(text) => Lexeme::String(text),
+            JsonPiece::Word(text) => Lexeme::Word(text),
         }
     }
 }

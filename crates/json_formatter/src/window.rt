@@ -9,7 +9,7 @@ ghost use Rattle.json_formatter.specs.Window.{width_with_comma, IsWidthUpTo, IsW
 use crate::ahead::Ahead;
 use crate::columns::piece_columns;
 use crate::kind::{closes, opens};
-use crate::piece::Piece;
+use crate::piece::JsonPiece;
 use crate::scanner::Scanner;
 use std::alloc::Global;
 use std::marker::Model;
@@ -54,7 +54,7 @@ impl<'a> Pieces<'a> {
 
     /// Takes the next piece, or answers `None` where none is left.
     #[inline(always)]
-    pub(crate) fn next(&mut self) -> Option<Piece<'a>>
+    pub(crate) fn next(&mut self) -> Option<JsonPiece<'a>>
         ensures next { MatchOption result ((self.old ≡ []) × (self.new ≡ []))
             (λ piece. self.old ≡ piece_text piece ∷ self.new) }
         ensures kind { IfSome result IsPiece }

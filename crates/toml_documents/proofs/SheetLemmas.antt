@@ -9,7 +9,7 @@ use Rattle.toml_documents.specs.Alignment.{comments_as, with_aligned_comments}
 use Rattle.toml_documents.specs.Sheets.{settled_lines, AreWalked, IsSheet}
 use Rattle.toml_documents.specs.Walks.{first_walk, walked}
 use Rattle.toml_documents.specs.declared.sheet.Sheet.{Sheet}
-use Rattle.toml_documents.specs.declared.walk.Walk.{Walk}
+use Rattle.toml_documents.specs.declared.walk.LinesRead.{LinesRead}
 use Rattle.toml_documents.proofs.Walking.{aligned_before, settled_is, walked_more}
 
 -- lines whose comments are not aligned are as they are
@@ -63,7 +63,7 @@ unaligned_more sheet done bytes lines off is h = record {
         ∙ ap (λ (l : List ℕ). string_bytes done ++ l) (sym (unaligned sheet.align later off))
 
 -- more lines that wait
-pub waiting_more : (sheet : Sheet) (waiting : String Global) (walk : Walk) (bytes lines : List ℕ) → sheet.align ≡ true
+pub waiting_more : (sheet : Sheet) (waiting : String Global) (walk : LinesRead) (bytes lines : List ℕ) → sheet.align ≡ true
     → string_bytes waiting ≡ string_bytes sheet.waiting ++ lines → walk ≡ walked sheet.walk (toml_spaced_lexemes lines)
     → IsSheet sheet bytes → IsSheet (record sheet { waiting = waiting; walk = walk }) (bytes ++ lines)
 waiting_more sheet waiting walk bytes lines on is same h = record {
@@ -73,8 +73,8 @@ waiting_more sheet waiting walk bytes lines on is same h = record {
   done = h.done;
   none = λ off. let clash : true ≡ false = sym on ∙ off in absurd (cc);
   walked = λ whole.
-      let more = walked_more sheet.walk (string_bytes sheet.waiting) lines h.walked (sym (ap (λ (w : Walk). w.whole) same) ∙ whole) in
-      subst (λ (w : Walk). AreWalked w (string_bytes waiting)) (sym same)
+      let more = walked_more sheet.walk (string_bytes sheet.waiting) lines h.walked (sym (ap (λ (w : LinesRead). w.whole) same) ∙ whole) in
+      subst (λ (w : LinesRead). AreWalked w (string_bytes waiting)) (sym same)
       (subst (λ (b : List ℕ). AreWalked (walked sheet.walk (toml_spaced_lexemes lines)) b) (sym is) more);
 }
 

@@ -23,7 +23,7 @@ use Rattle.toml_documents.specs.Walks.{first_walk, is_text_end, past_comment, pa
 use Rattle.toml_documents.specs.Walks.{walked}
 use Rattle.toml_documents.specs.declared.standing.Reach.{Reach}
 use Rattle.toml_documents.specs.declared.standing.Standing.{Standing}
-use Rattle.toml_documents.specs.declared.walk.Walk.{Walk}
+use Rattle.toml_documents.specs.declared.walk.LinesRead.{LinesRead}
 use Rattle.toml_documents.proofs.Aligning.{follows_gap, spaced_next}
 
 clash : {b : Bool} → b ≡ true → b ≡ false → ⊥
@@ -84,37 +84,37 @@ line_follows s later e = subst (λ (t : List ℕ). MayFollow t later) (sym e) (f
 
 -- ---- the walk
 
-walked_both : (w : Walk) (ps qs : List SpacedToml) → walked w (ps ++ qs) ≡ walked (walked w ps) qs
+walked_both : (w : LinesRead) (ps qs : List SpacedToml) → walked w (ps ++ qs) ≡ walked (walked w ps) qs
 walked_both w [] qs = refl
 walked_both w (p ∷ ps) qs = walked_both (walk_past w p) ps qs
 
-lexeme_whole : (a d h : Bool) (w : Walk) (s : List ℕ) → (past_lexeme a d h w s).whole ≡ w.whole
+lexeme_whole : (a d h : Bool) (w : LinesRead) (s : List ℕ) → (past_lexeme a d h w s).whole ≡ w.whole
 lexeme_whole true d true w s = refl
 lexeme_whole true d false w s = refl
 lexeme_whole false true h w s = refl
 lexeme_whole false false h w s = refl
 
-end_whole : (b : Bool) (w v : Walk) (g : List ℕ) → v.whole ≡ w.whole → (cond b (past_end w g) v).whole ≡ true → w.whole ≡ true
+end_whole : (b : Bool) (w v : LinesRead) (g : List ℕ) → v.whole ≡ w.whole → (cond b (past_end w g) v).whole ≡ true → w.whole ≡ true
 end_whole true w v g same e = (and_parts w.whole w.fresh (and_parts (w.whole && w.fresh) (length g == 0) e).0).0
 end_whole false w v g same e = sym same ∙ e
 
 -- the walk is whole only where it was
-past_whole : (w : Walk) (p : SpacedToml) → (walk_past w p).whole ≡ true → w.whole ≡ true
+past_whole : (w : LinesRead) (p : SpacedToml) → (walk_past w p).whole ≡ true → w.whole ≡ true
 past_whole w p e =
     end_whole (is_text_end p.lexeme) w (past_lexeme (is_comment_lexeme p) (ends_the_line p) w.holds w p.lexeme) p.gap
     (lexeme_whole (is_comment_lexeme p) (ends_the_line p) w.holds w p.lexeme) e
 
-walk_whole : (ps : List SpacedToml) (w : Walk) → (walked w ps).whole ≡ true → w.whole ≡ true
+walk_whole : (ps : List SpacedToml) (w : LinesRead) → (walked w ps).whole ≡ true → w.whole ≡ true
 walk_whole [] w e = e
 walk_whole (p ∷ ps) w e = past_whole w p (walk_whole ps (walk_past w p) e)
 
-lexeme_fresh : (a d h : Bool) (w : Walk) (s : List ℕ) → (past_lexeme a d h w s).fresh ≡ true → d ≡ true
+lexeme_fresh : (a d h : Bool) (w : LinesRead) (s : List ℕ) → (past_lexeme a d h w s).fresh ≡ true → d ≡ true
 lexeme_fresh true d true w s e = absurd (cc)
 lexeme_fresh true d false w s e = absurd (cc)
 lexeme_fresh false true h w s e = refl
 lexeme_fresh false false h w s e = absurd (cc)
 
-past_fresh : (w : Walk) (p : SpacedToml) → is_text_end p.lexeme ≡ false → (walk_past w p).fresh ≡ true → ends_the_line p ≡ true
+past_fresh : (w : LinesRead) (p : SpacedToml) → is_text_end p.lexeme ≡ false → (walk_past w p).fresh ≡ true → ends_the_line p ≡ true
 past_fresh w p some e =
     lexeme_fresh (is_comment_lexeme p) (ends_the_line p) w.holds w p.lexeme
     (subst (λ (b : Bool). (cond b (past_end w p.gap)
@@ -122,7 +122,7 @@ past_fresh w p some e =
 
 -- ---- a text that ends with a line, in front of others
 
-follows_later : (ss : List (List ℕ)) (rest later : List ℕ) (w : Walk) (p : SpacedToml) → IsWellSpaced rest ss → AreAlone ss
+follows_later : (ss : List (List ℕ)) (rest later : List ℕ) (w : LinesRead) (p : SpacedToml) → IsWellSpaced rest ss → AreAlone ss
     → cut_toml between p.lexeme ≡ p.lexeme ∷ [] → MayFollow p.lexeme rest → (walked (walk_past w p) (toml_spaced_as rest ss)).whole ≡ true
     → MayFollow p.lexeme (rest ++ later)
 follows_later [] rest later w p gap each alone follows e =
@@ -137,13 +137,13 @@ follows_later (t ∷ ts) rest later w p (g, after, gap, is, next, spaced) each a
     (subst (λ (b : List ℕ). MayFollow p.lexeme b) is follows)))
 
 -- the lexemes of a text, which it has in front of any others, and the walk over it
-record Front (w : Walk) (bytes : List ℕ) (all : List SpacedToml) : Type 0 where
+record Front (w : LinesRead) (bytes : List ℕ) (all : List SpacedToml) : Type 0 where
   spaced : List SpacedToml
   lexemes : AreLexemes spaced
   same : walked w all ≡ walked w spaced
   before : (later : List ℕ) → toml_spaced_lexemes (bytes ++ later) ≡ spaced ++ toml_spaced_lexemes later
 
-front_of : (ss : List (List ℕ)) (bytes : List ℕ) (w : Walk) → IsWellSpaced bytes ss → AreAlone ss
+front_of : (ss : List (List ℕ)) (bytes : List ℕ) (w : LinesRead) → IsWellSpaced bytes ss → AreAlone ss
     → (walked w (toml_spaced_as bytes ss)).whole ≡ true → Front w bytes (toml_spaced_as bytes ss)
 front_of [] bytes w gap each e =
     let parts = and_parts (w.whole && w.fresh) (length bytes == 0) e in
@@ -174,7 +174,7 @@ front_of (s ∷ ss) bytes w (g, rest, gap, is, follows, spaced) each e =
 -- ---- where alignment stands
 
 -- a walk and a standing that are on the same line
-record Follows (st : Standing) (w : Walk) : Type 0 where
+record Follows (st : Standing) (w : LinesRead) : Type 0 where
   holds : w.holds ≡ st.reach.holds
   ended : w.ended ≡ st.reach.ended
   free : w.free ≡ true → st ≡ first_standing
@@ -193,7 +193,7 @@ is_not : (b : Bool) → not b ≡ true → b ≡ false
 is_not true e = absurd (cc)
 is_not false e = refl
 
-follows_by : (a d h : Bool) (st : Standing) (w : Walk) (p : SpacedToml) (m : ℕ) → (a ≡ true → d ≡ false) → Follows st w
+follows_by : (a d h : Bool) (st : Standing) (w : LinesRead) (p : SpacedToml) (m : ℕ) → (a ≡ true → d ≡ false) → Follows st w
     → Follows (stand_by a d h st p m) (past_lexeme a d h w p.lexeme)
 follows_by true d true st w p m apart f = record { holds = f.holds; ended = refl; free = λ e. absurd (cc) }
 follows_by true true false st w p m apart f = let no : true ≡ false = apart refl in absurd (cc)
@@ -212,19 +212,19 @@ not_both : (k : Sort) → is_comment_sort k ≡ true → is_line_end_sort k ≡ 
 not_both sort.line_end e = absurd (cc)
 not_both k e = refl
 
-follows_next : (st : Standing) (w : Walk) (p : SpacedToml) (ps : List SpacedToml) → is_text_end p.lexeme ≡ false → Follows st w
+follows_next : (st : Standing) (w : LinesRead) (p : SpacedToml) (ps : List SpacedToml) → is_text_end p.lexeme ≡ false → Follows st w
     → Follows (standing_past st p ps) (walk_past w p)
 follows_next st w p ps some f =
     let a = is_comment_lexeme p in
     let d = ends_the_line p in
     let past : walk_past w p ≡ past_lexeme a d st.reach.holds w p.lexeme =
     λ i. cond (some i) (past_end w p.gap) (past_lexeme a d (f.holds i) w p.lexeme) in
-    subst (λ (v : Walk). Follows (standing_past st p ps) v) (sym past)
+    subst (λ (v : LinesRead). Follows (standing_past st p ps) v) (sym past)
     (follows_by a d st.reach.holds st w p (most_here st ps) (not_both (sort_of p.lexeme)) f)
 
 -- ---- how far alignment reads ahead
 
-as_lexeme : (w : Walk) (p : SpacedToml) (ps : List SpacedToml) → is_text_end p.lexeme ≡ false → (walked (walk_past w p) ps).free ≡ true
+as_lexeme : (w : LinesRead) (p : SpacedToml) (ps : List SpacedToml) → is_text_end p.lexeme ≡ false → (walked (walk_past w p) ps).free ≡ true
     → (walked (past_lexeme (is_comment_lexeme p) (ends_the_line p) w.holds w p.lexeme) ps).free ≡ true
 as_lexeme w p ps some e =
     subst (λ (b : Bool). (walked (cond b (past_end w p.gap)
@@ -232,10 +232,10 @@ as_lexeme w p ps some e =
 
 -- no further than these, if others follow
 abbrev StopsIn : List SpacedToml → List SpacedToml → Type 0
-StopsIn ps qs = (w : Walk) (r : Reach) (n : ℕ) → w.holds ≡ r.holds → w.ended ≡ r.ended → w.free ≡ false → (walked w ps).free ≡ true
+StopsIn ps qs = (w : LinesRead) (r : Reach) (n : ℕ) → w.holds ≡ r.holds → w.ended ≡ r.ended → w.free ≡ false → (walked w ps).free ≡ true
     → most_columns n r (ps ++ qs) ≡ most_columns n r ps
 
-stops_by : (a d h e : Bool) (p : SpacedToml) (ps qs : List SpacedToml) (w : Walk) (r : Reach) (n : ℕ) → StopsIn ps qs
+stops_by : (a d h e : Bool) (p : SpacedToml) (ps qs : List SpacedToml) (w : LinesRead) (r : Reach) (n : ℕ) → StopsIn ps qs
     → w.holds ≡ r.holds → w.ended ≡ r.ended → w.ended ≡ e → (walked (past_lexeme a d h w p.lexeme) ps).free ≡ true
     → cond a (cond h (most_columns (max n r.columns) (reach_with_comment r) (ps ++ qs)) n)
     (cond d (cond e (most_columns n reach_start (ps ++ qs)) n) (most_columns n (reach_past r p) (ps ++ qs)))
@@ -259,19 +259,19 @@ stops_in (p ∷ ps) qs some = λ w r n holds ended free e.
 -- ---- alignment in two parts
 
 -- a comment at the end of a line
-past_at_end : (st : Standing) (w : Walk) (p : SpacedToml) → is_text_end p.lexeme ≡ false → Follows st w → is_at_end st p ≡ true
+past_at_end : (st : Standing) (w : LinesRead) (p : SpacedToml) → is_text_end p.lexeme ≡ false → Follows st w → is_at_end st p ≡ true
     → walk_past w p ≡ past_comment w
 past_at_end st w p some f at_end =
     let parts = and_parts (is_comment_lexeme p) st.reach.holds at_end in
     let holds : w.holds ≡ true = f.holds ∙ parts.1 in
     λ i. cond (some i) (past_end w p.gap) (past_lexeme (parts.0 i) (ends_the_line p) (holds i) w p.lexeme)
 
-most_same : (st : Standing) (w : Walk) (p : SpacedToml) (ps qs : List SpacedToml) → AreLexemes (p ∷ ps) → Follows st w
+most_same : (st : Standing) (w : LinesRead) (p : SpacedToml) (ps qs : List SpacedToml) → AreLexemes (p ∷ ps) → Follows st w
     → (walked (walk_past w p) ps).free ≡ true → is_at_end st p ≡ true → most_here st (ps ++ qs) ≡ most_here st ps
 most_same st w p ps qs some f e at_end =
     ap (known_or st.most)
     (stops_in ps qs some.1 (past_comment w) (reach_with_comment st.reach) st.reach.columns f.holds refl refl
-    (subst (λ (v : Walk). (walked v ps).free ≡ true) (past_at_end st w p some.0 f at_end) e))
+    (subst (λ (v : LinesRead). (walked v ps).free ≡ true) (past_at_end st w p some.0 f at_end) e))
 
 moved_same : (b : Bool) (m n c : ℕ) → (b ≡ true → m ≡ n) → (if b then Some (m - c) else None) ≡ (if b then Some (n - c) else None)
 moved_same true m n c h = ap (λ (k : ℕ). Some (k - c)) (h refl)
@@ -288,7 +288,7 @@ standing_else st p =
     if ends_the_line p then record { reach = reach_start; most = if st.reach.ended then st.most else None }
     else record st { reach = reach_past st.reach p }
 
-splits : (ps : List SpacedToml) (st : Standing) (w : Walk) (qs : List SpacedToml) → AreLexemes ps → Follows st w
+splits : (ps : List SpacedToml) (st : Standing) (w : LinesRead) (qs : List SpacedToml) → AreLexemes ps → Follows st w
     → (walked w ps).free ≡ true → aligned_from st (ps ++ qs) ≡ aligned_from st ps ++ aligned_from first_standing qs
 splits [] st w qs some f e = ap (λ (s : Standing). aligned_from s qs) (f.free e)
 splits (p ∷ ps) st w qs some f e =
@@ -303,38 +303,38 @@ splits (p ∷ ps) st w qs some f e =
 
 -- ---- lines with no comment at their ends
 
-lexeme_plain : (a d h : Bool) (w : Walk) (s : List ℕ) → w.plain ≡ false → (past_lexeme a d h w s).plain ≡ false
+lexeme_plain : (a d h : Bool) (w : LinesRead) (s : List ℕ) → w.plain ≡ false → (past_lexeme a d h w s).plain ≡ false
 lexeme_plain true d true w s e = refl
 lexeme_plain true d false w s e = e
 lexeme_plain false true h w s e = e
 lexeme_plain false false h w s e = e
 
-end_plain : (b : Bool) (w v : Walk) (g : List ℕ) → w.plain ≡ false → v.plain ≡ false → (cond b (past_end w g) v).plain ≡ false
+end_plain : (b : Bool) (w v : LinesRead) (g : List ℕ) → w.plain ≡ false → v.plain ≡ false → (cond b (past_end w g) v).plain ≡ false
 end_plain true w v g e h = e
 end_plain false w v g e h = h
 
-plain_walked : (ps : List SpacedToml) (w : Walk) → w.plain ≡ false → (walked w ps).plain ≡ false
+plain_walked : (ps : List SpacedToml) (w : LinesRead) → w.plain ≡ false → (walked w ps).plain ≡ false
 plain_walked [] w e = e
 plain_walked (p ∷ ps) w e =
     plain_walked ps (walk_past w p)
     (end_plain (is_text_end p.lexeme) w (past_lexeme (is_comment_lexeme p) (ends_the_line p) w.holds w p.lexeme) p.gap e
     (lexeme_plain (is_comment_lexeme p) (ends_the_line p) w.holds w p.lexeme e))
 
-clear_next : (p : SpacedToml) (ps : List SpacedToml) (st : Standing) (w : Walk) → is_text_end p.lexeme ≡ false → Follows st w
+clear_next : (p : SpacedToml) (ps : List SpacedToml) (st : Standing) (w : LinesRead) → is_text_end p.lexeme ≡ false → Follows st w
     → (walked (walk_past w p) ps).plain ≡ true → aligned_from (standing_past st p ps) ps ≡ ps → aligned_from st (p ∷ ps) ≡ p ∷ ps
 clear_next p ps st w some f e others = go (is_at_end st p) refl
   where
     go : (b : Bool) → is_at_end st p ≡ b → aligned_from st (p ∷ ps) ≡ p ∷ ps
     go true at_end =
         let past = past_at_end st w p some f at_end in
-        absurd (clash e (ap (λ (v : Walk). (walked v ps).plain) past ∙ plain_walked ps (past_comment w) refl))
+        absurd (clash e (ap (λ (v : LinesRead). (walked v ps).plain) past ∙ plain_walked ps (past_comment w) refl))
     go false at_end =
         let none : moved_by st p ps ≡ None =
         ap (λ (b : Bool). if b then Some (most_here st ps - st.reach.columns) else None) at_end in
         (λ i. after_toml_gap (moved_gap (none i) p.gap) p.lexeme ∷ aligned_from (standing_past st p ps) ps)
         ∙ ap (λ (l : List SpacedToml). p ∷ l) others
 
-clear : (ps : List SpacedToml) (st : Standing) (w : Walk) → AreLexemes ps → Follows st w → (walked w ps).plain ≡ true
+clear : (ps : List SpacedToml) (st : Standing) (w : LinesRead) → AreLexemes ps → Follows st w → (walked w ps).plain ≡ true
     → aligned_from st ps ≡ ps
 clear [] st w some f e = refl
 clear (p ∷ ps) st w some f e =
@@ -353,9 +353,9 @@ put_both (p ∷ ps) qs =
 abbrev text_end : SpacedToml
 text_end = after_toml_gap [] []
 
-module _ (w : Walk) (bytes : List ℕ) (h : AreWalked w bytes) (free : w.free ≡ true) where
+module _ (w : LinesRead) (bytes : List ℕ) (h : AreWalked w bytes) (free : w.free ≡ true) where
   settled : (walked first_walk h.spaced).free ≡ true
-  settled = sym (ap (λ (v : Walk). v.free) h.walk) ∙ free
+  settled = sym (ap (λ (v : LinesRead). v.free) h.walk) ∙ free
 
   spaced_alone : toml_spaced_lexemes bytes ≡ h.spaced ++ text_end ∷ []
   spaced_alone =
@@ -385,7 +385,7 @@ module _ (w : Walk) (bytes : List ℕ) (h : AreWalked w bytes) (free : w.free �
   aligned_plain plain =
       aligned_alone
       ∙ ap toml_put_together (clear h.spaced first_standing first_walk h.lexemes first_follows
-      (sym (ap (λ (v : Walk). v.plain) h.walk) ∙ plain))
+      (sym (ap (λ (v : LinesRead). v.plain) h.walk) ∙ plain))
       ∙ sym (append-nil (toml_put_together h.spaced)) ∙ sym (put_both h.spaced (text_end ∷ []))
       ∙ sym (ap toml_put_together spaced_alone) ∙ joined_spaced bytes
 
@@ -402,7 +402,7 @@ lexemes_both [] qs h k = k
 lexemes_both (p ∷ ps) qs h k = (h.0, lexemes_both ps qs h.1 k)
 
 -- lines, and more
-pub walked_more : (w : Walk) (bytes lines : List ℕ) → (w.whole ≡ true → AreWalked w bytes)
+pub walked_more : (w : LinesRead) (bytes lines : List ℕ) → (w.whole ≡ true → AreWalked w bytes)
     → (walked w (toml_spaced_lexemes lines)).whole ≡ true → AreWalked (walked w (toml_spaced_lexemes lines)) (bytes ++ lines)
 walked_more w bytes lines h e =
     let first = h (walk_whole (toml_spaced_lexemes lines) w e) in
@@ -410,7 +410,7 @@ walked_more w bytes lines h e =
     record {
       spaced = first.spaced ++ more.spaced;
       lexemes = lexemes_both first.spaced more.spaced first.lexemes more.lexemes;
-      walk = more.same ∙ ap (λ (v : Walk). walked v more.spaced) first.walk ∙ sym (walked_both first_walk first.spaced more.spaced);
+      walk = more.same ∙ ap (λ (v : LinesRead). walked v more.spaced) first.walk ∙ sym (walked_both first_walk first.spaced more.spaced);
       before = λ later.
           ap toml_spaced_lexemes (append_assoc bytes lines later) ∙ first.before (lines ++ later)
           ∙ ap (λ (l : List SpacedToml). first.spaced ++ l) (more.before later)

@@ -5,7 +5,7 @@ use Rattle.toml_lexemes.specs.SpacedLexemes.{SpacedToml, toml_spaced_lexemes}
 use Rattle.toml_documents.specs.Alignment.{comments_as, with_aligned_comments}
 use Rattle.toml_documents.specs.Walks.{first_walk, is_text_end, walked}
 use Rattle.toml_documents.specs.declared.sheet.Sheet.{Sheet}
-use Rattle.toml_documents.specs.declared.walk.Walk.{Walk}
+use Rattle.toml_documents.specs.declared.walk.LinesRead.{LinesRead}
 
 -- lines with their comments aligned, where they have none at their ends or may have some
 abbrev pub settled_lines : Bool → List ℕ → List ℕ
@@ -18,7 +18,7 @@ AreLexemes [] = ⊤
 AreLexemes (p ∷ ps) = (is_text_end p.lexeme ≡ false) × AreLexemes ps
 
 -- The bytes are lines with these lexemes, which they have in front of any others. The walk is that after them.
-pub record AreWalked (w : Walk) (bytes : List ℕ) : Type 0 where
+pub record AreWalked (w : LinesRead) (bytes : List ℕ) : Type 0 where
   pub spaced : List SpacedToml
   pub lexemes : AreLexemes spaced
   pub walk : w ≡ walked first_walk spaced

@@ -6,7 +6,7 @@ ghost use Rattle.toml_documents.specs.Sheets.{settled_lines, IsSheet};
 ghost use Rattle.toml_documents.specs.Walks.{is_settled};
 
 use crate::alignment::push_aligned;
-use crate::walk::{FIRST, Walk};
+use crate::walk::{FIRST, LinesRead};
 use std::alloc::{AllocError, Global};
 
 /// Lines that were laid out.
@@ -19,11 +19,11 @@ pub struct Sheet {
     /// The lines after them, as they were laid out: the comments of later ones may be aligned with theirs.
     waiting: String,
     /// What those lines are.
-    walk: Walk,
+    walk: LinesRead,
 }
 
 /// Adds lines with which no later ones are aligned, where their comments are aligned.
-fn push_settled(done: &mut String, lines: &str, walk: Walk) -> Result<(), AllocError>
+fn push_settled(done: &mut String, lines: &str, walk: LinesRead) -> Result<(), AllocError>
     ensures { OnOk result (string_bytes done.new ≡ string_bytes done.old ++ settled_lines walk.plain lines.now) }
 {
     if walk.is_plain() {

@@ -10,7 +10,7 @@ use toml_lexemes::{Spaced, SpacedLexer};
 
 /// What lines are, read up to here.
 #[derive(Clone, Copy)]
-pub(crate) struct Walk {
+pub(crate) struct LinesRead {
     /// Whether a comment that comes now is one at the end of a line.
     holds: bool,
     /// Whether such a comment came on this line.
@@ -26,7 +26,7 @@ pub(crate) struct Walk {
 }
 
 /// Before the first line.
-pub(crate) const FIRST: Walk = Walk {
+pub(crate) const FIRST: LinesRead = LinesRead {
     holds: false,
     ended: false,
     fresh: true,
@@ -43,22 +43,22 @@ fn is_end(found: Spaced<'_>) -> bool
     found.lexeme.is_none()
 }
 
-impl Walk {
+impl LinesRead {
     /// After the end of a text, which has this gap before it.
-    fn past_end(self, gap: &str) -> Walk
+    fn past_end(self, gap: &str) -> LinesRead
         ensures { result ≡ spec.past_end self gap.now }
     {
-        Walk {
+        LinesRead {
             whole: self.whole && self.fresh && gap.is_empty(),
             ..self
         }
     }
 
     /// After a comment at the end of a line.
-    fn past_comment(self) -> Walk
+    fn past_comment(self) -> LinesRead
         ensures { result ≡ spec.past_comment self }
     {
-        Walk {
+        LinesRead {
             ended: true,
             fresh: false,
             free: false,
@@ -68,10 +68,10 @@ impl Walk {
     }
 
     /// After the end of a line.
-    fn past_line(self) -> Walk
+    fn past_line(self) -> LinesRead
         ensures { result ≡ spec.past_line self }
     {
-        Walk {
+        LinesRead {
             holds: false,
             ended: false,
             fresh: true,
@@ -81,10 +81,10 @@ impl Walk {
     }
 
     /// After any other lexeme.
-    fn past_text(self, text: &str) -> Walk
+    fn past_text(self, text: &str) -> LinesRead
         ensures { result ≡ spec.past_text self text.now }
     {
-        Walk {
+        LinesRead {
             holds: !has_lines(text),
             fresh: false,
             free: false,
@@ -93,7 +93,7 @@ impl Walk {
     }
 
     /// After a comment.
-    fn past_any_comment(self, text: &str) -> Walk
+    fn past_any_comment(self, text: &str) -> LinesRead
         ensures { result ≡ spec.past_any_comment self.holds self text.now }
     {
         if self.holds {
@@ -104,7 +104,7 @@ impl Walk {
     }
 
     /// After a lexeme, or the end of a text.
-    fn past(self, found: Spaced<'_>) -> Walk
+    fn past(self, found: Spaced<'_>) -> LinesRead
         requires { IsNamedIf found.lexeme }
         ensures { result ≡ spec.walk_past self (spaced_of found.entry) }
     {
@@ -121,7 +121,7 @@ impl Walk {
     }
 
     /// After all of a text.
-    pub(crate) fn over(self, text: &str) -> Walk
+    pub(crate) fn over(self, text: &str) -> LinesRead
         ensures { result ≡ spec.walked self (toml_spaced_lexemes text.now) }
     {
         let mut walk = self;

@@ -1,7 +1,7 @@
 use Rattle.std.proofs.Common.{◌≡◌, length}
 use Rattle.toml_lexemes.specs.SpacedLexemes.{toml_spaced_lexemes}
 use Rattle.toml_documents.specs.Walks.{walked}
-use Rattle.toml_documents.proofs.walk.Walk.over.Given as goal
+use Rattle.toml_documents.proofs.walk.LinesRead.over.Given as goal
 
 -- what is left decides
 abbrev pub invariant-loop-found : goal.invariant-loop-found
