@@ -179,7 +179,7 @@ lets_follow s t hs ht g rest blank has follows = by (small_sort s hs) (small_sor
     by (a_sign e) k = subst (λ l. MayFollow small_language l (g ++ (t ++ rest))) (sym e) (refl, refl)
     by (a_note u e noted) k =
         let line : EndsLine g = note_line u e k in
-        subst (λ l. MayFollow small_language l (g ++ (t ++ rest))) (sym e) 
+        subst (λ l. MayFollow small_language l (g ++ (t ++ rest))) (sym e)
         (note_follows u (g ++ (t ++ rest)) noted (line_ends_note g (t ++ rest) blank line))
       where
         some_line : (u v : List ℕ) → Has (least_small (35 ∷ u) v) g → EndsLine g
