@@ -15,7 +15,7 @@ HEAD = """# Every public item
 
 `tools/api` writes this page: parameters, and the first sentence of the comment beside the code, without asides. The
 contract there says what a call promises. [GUIDE](GUIDE.md#how-a-document-is-made) shows the constructs by example.
-`alloc` is memory, a `Global`, and `place` a place of nodes (an allocator). Names after "also" stand further up.
+`alloc` is memory, a `Global`, and `place` an allocator of nodes. Names after "also" stand further up.
 """
 # The sections of `prettyless`, and the crates and files whose items stand in each; an item stands in the first that has it.
 SECTIONS = {
