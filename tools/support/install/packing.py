@@ -69,8 +69,8 @@ def pack(folder, name, top=""):
     path = f"{DIST}/{name}"
     with open(path, "wb") as raw, gzip.GzipFile("", "wb", 6, raw, 0) as zipped:
         with tarfile.open(fileobj=zipped, mode="w", format=tarfile.PAX_FORMAT) as archive:
-            for path in files_below(folder):
-                archive.add(path, os.path.join(top, os.path.relpath(path, folder)), filter=plain)
+            for file in files_below(folder):
+                archive.add(file, os.path.join(top, os.path.relpath(file, folder)), filter=plain)
     return path
 
 
