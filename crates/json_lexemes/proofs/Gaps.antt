@@ -1,6 +1,5 @@
 -- A text is its lexemes, with gaps around them.
-use Rattle.std.proofs.Common.{◌≡◌, ℕ, true, List, [], ◌∷◌, sym, subst}
-use Rattle.json.specs.Word.{is_space}
+use Rattle.std.proofs.Common.{ℕ, List, [], ◌∷◌, sym, subst}
 use Rattle.json.specs.Lex.{between}
 use Rattle.text_lexemes.specs.Languages.{lexemes_in}
 use Rattle.text_lexemes.specs.SpacedTexts as text

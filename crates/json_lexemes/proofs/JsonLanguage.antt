@@ -1,5 +1,5 @@
 -- JSON's lexemes are those of a language that is read from the left.
-use Rattle.std.proofs.Common.{◌≡◌, ℕ, Bool, true, false, ◌||◌, List, [], ◌∷◌, refl, sym, ap, ◌∙◌, subst}
+use Rattle.std.proofs.Common.{◌≡◌, ℕ, Bool, true, false, List, [], ◌∷◌, refl, sym, ap, ◌∙◌, subst}
 use Rattle.std.proofs.lemmas.Bool.{or_parts}
 use Rattle.json.specs.Lex as json
 use Rattle.json.specs.Lex.{Class, quote, backslash, operator, space, other, class}
@@ -26,9 +26,9 @@ blank_by_class x other e = (or_parts (is_operator x) (is_space x) e).1
 module _ (x : ℕ) (xs : List ℕ) (h : (m : json.Mode) → cut m xs ≡ language.cut json_language (json_mode m) xs) where
   begun : (c : Class) → class x ≡ c → IsSpaceClass c ≡ false
       → language.cut json_language between (x ∷ xs) ≡ cut_first (first_json c) x (λ m. language.cut json_language m xs)
-  begun c e no =
+  begun c e differs =
       cuts.cut_begun json_language x xs (first_json c)
-      (blank_by_class x c (subst (λ d. IsOfClass d x) e (IsOfClass-class x)) ∙ no) (ap first_json e)
+      (blank_by_class x c (subst (λ d. IsOfClass d x) e (IsOfClass-class x)) ∙ differs) (ap first_json e)
 
   passed : class x ≡ space → language.cut json_language between (x ∷ xs) ≡ language.cut json_language between xs
   passed e = cuts.cut_blank json_language x xs (blank_by_class x space (subst (λ d. IsOfClass d x) e (IsOfClass-class x)))

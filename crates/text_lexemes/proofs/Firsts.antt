@@ -1,11 +1,11 @@
 -- The first lexeme from a place of the text on, and the blanks before it.
-use Rattle.std.proofs.Common.{◌≡◌, ℕ, suc, ◌+◌, ◌-◌, ◌<◌, ◌≤◌, Bool, true, false, List, [], ◌∷◌, ◌++◌, length, take, drop, get_or}
+use Rattle.std.proofs.Common.{◌≡◌, ℕ, suc, ◌+◌, ◌-◌, ◌<◌, ◌≤◌, true, false, List, [], ◌∷◌, ◌++◌, length, take, drop, get_or}
 use Rattle.std.proofs.Common.{inl, inr, ◌⊎◌, sym, ap, ◌∙◌, subst, arith, length-drop, append-nil, append_assoc}
 use Rattle.std.proofs.lemmas.Bool.{cases_lt}
 use Rattle.std.proofs.lemmas.List.{drop_more, drop_all, drop-drop, length-take-le}
 use Rattle.std.proofs.lemmas.Str.{IsCharBoundary-after_ascii, IsCharBoundary-before_ascii, IsCharBoundary-end}
 use Rattle.std.specs.Str.{IsUtf8, IsCharBoundary}
-use Rattle.text_lexemes.specs.Languages.{Language, between, within, First, alone, begins, lengthened, cut}
+use Rattle.text_lexemes.specs.Languages.{Language, between, within, alone, begins, lengthened, cut}
 use Rattle.text_lexemes.specs.SpacedTexts.{lexeme_after, blanks, spaced_as, spaced_in}
 use Rattle.text_lexemes.specs.FirstLexemes.{IsFirstLexeme}
 use Rattle.text_lexemes.proofs.Cuts.{cut_nil, cut_blank, cut_begun}
