@@ -1,14 +1,14 @@
 -- A table of neighbours for a small language.
 use Rattle.std.proofs.Common.{◌≡◌, ℕ, Bool, true, false, cond, ◌==◌, ◌&&◌, ◌||◌, List, [], ◌∷◌, ◌++◌, refl, sym, ap, ◌∙◌, subst}
 use Rattle.std.proofs.Common.{◌⊎◌, inl, inr, arith}
-use Rattle.std.specs.Prelude.{⊤, not}
-use Rattle.std.proofs.lemmas.Bool.{true≢false, eqb-true, and_parts, or_parts, or_cases}
+use Rattle.std.specs.Prelude.{not}
+use Rattle.std.proofs.lemmas.Bool.{eqb-true, and_parts, or_parts}
 use Rattle.prettyless_model.specs.Spelling.{is_blank_byte}
 use Rattle.prettyless_model.specs.Shows.{Least, Nothing, Spacing, LineEnd, EndsLine, IsBlank, Has}
-use Rattle.text_lexemes.specs.Languages.{First, alone, begins, Turn, goes_on, ends, stops}
+use Rattle.text_lexemes.specs.Languages.{alone, begins, goes_on, stops}
 use Rattle.text_lexemes.specs.SpacedTexts.{OnTurn, OnFirst, StopsBefore, EndsWithin, MayFollow}
 use Rattle.text_lexemes.specs.Rows.{InSmall, in_name, in_note, is_small_blank, ends_note, turn_small, small_language}
-use Rattle.shown_lexemes.specs.Neighbours.{PassesGaps, LetsFollow, LetsEnd, Neighbours, EndHas}
+use Rattle.shown_lexemes.specs.Neighbours.{PassesGaps, LetsFollow, LetsEnd, Neighbours}
 use Rattle.shown_lexemes.proofs.ShownTexts.{first_blank}
 
 -- ---- the table
@@ -148,7 +148,7 @@ name_follows x t r sign hash name letters stop = (
     first = λ i. cond (sign i) alone (cond (hash i) (begins in_note) (begins in_name))
 
 note_follows : (t r : List ℕ) → are_noted t ≡ true → ends_note r ≡ true → MayFollow small_language (35 ∷ t) r
-note_follows t r noted ends = (refl, note_ends t r noted (stops_note r ends))
+note_follows t r noted ended = (refl, note_ends t r noted (stops_note r ended))
 
 -- what begins a sign or a note ends a name
 name_before : (x : ℕ) (t g u rest : List ℕ) → (x == 59) ≡ false → (x == 35) ≡ false → IsBlank g → Has (least_small (x ∷ t) u) g
@@ -172,7 +172,7 @@ name_before x t [] (y ∷ ys) rest sign hash blank has follows =
         (subst (λ (b : Bool). Has (cond b LineEnd (cond ((y == 59) || (y == 35)) Nothing Spacing)) []) hash has) in
         absurd (omega arith)
 
-lets_follow : (s t : List ℕ) → is_small s ≡ true → is_small t ≡ true → LetsFollow small_language s (least_small s t) t
+pub lets_follow : (s t : List ℕ) → is_small s ≡ true → is_small t ≡ true → LetsFollow small_language s (least_small s t) t
 lets_follow s t hs ht g rest blank has follows = by (small_sort s hs) (small_sort t ht)
   where
     by : SmallSort s → SmallSort t → MayFollow small_language s (g ++ (t ++ rest))
@@ -193,7 +193,7 @@ lets_follow s t hs ht g rest blank has follows = by (small_sort s hs) (small_sor
         (name_follows x u (g ++ (t ++ rest)) sign hash name letters
         (name_before x u g t rest sign hash blank (subst (λ l. Has (least_small l t) g) e has) follows))
 
-lets_end : (s : List ℕ) → is_small s ≡ true → LetsEnd small_language s Nothing
+pub lets_end : (s : List ℕ) → is_small s ≡ true → LetsEnd small_language s Nothing
 lets_end s hs g blank has = by (small_sort s hs)
   where
     gap_end : (g : List ℕ) → IsBlank g → StopsBefore small_language in_name g
@@ -206,6 +206,6 @@ lets_end s hs g blank has = by (small_sort s hs)
     by (a_name x u e sign hash name letters) =
         subst (λ l. MayFollow small_language l g) (sym e) (name_follows x u g sign hash name letters (gap_end g blank))
 
-pub small_table : Neighbours small_language
+abbrev pub small_table : Neighbours small_language
 small_table =
     record { is_whole = is_small; least = least_small; least_end = λ s. Nothing; follow = lets_follow; end = lets_end }
