@@ -16,7 +16,7 @@ returns-clause-ok c = record {
 pub returns-in_err-style-clause-err : goal.returns-in_err-style-clause-err
 returns-in_err-style-clause-err c =
     let rows = rows_of (found_of c.args.matches.now) in
-    IfErr-made c.from_residual-in_err-style.result _ c.from_residual-in_err-style.ensures.1
+    IfErr-made c.from_residual.result _ c.from_residual.ensures.1
     (λ e made. subst (λ (x : RequestError). IsRequestError (IsErrorFor rows) rows x) (sym made) c.in_err-style.ensures.err)
 
 pub returns-in_err-lines-clause-err : goal.returns-in_err-lines-clause-err

@@ -87,5 +87,5 @@ returns-in_err-matches-clause-err g c =
 pub returns-in_err-command-clause-err : goal.returns-in_err-command-clause-err
 returns-in_err-command-clause-err g c =
     let words = map g.S.AsStr.text c.args.words.now in
-    MatchResult-made c.from_residual-in_err-command.result _ _ c.from_residual-in_err-command.ensures.1
+    MatchResult-made c.from_residual.result _ _ c.from_residual.ensures.1
     (λ e made. fault_of_words IsOutOfMemory (IsErrorOf words) (λ x memory. inl (inl memory)) (matches words) e made)

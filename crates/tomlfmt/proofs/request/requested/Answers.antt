@@ -68,5 +68,5 @@ pub returns-in_err-command-clause-err : goal.returns-in_err-command-clause-err
 unfolding tomlfmt_faults tomlfmt_matches
 returns-in_err-command-clause-err g c =
     let words = map g.S.AsStr.text c.args.words.now in
-    MatchResult-made c.from_residual-in_err-command.result _ _ c.from_residual-in_err-command.ensures.1
+    MatchResult-made c.from_residual.result _ _ c.from_residual.ensures.1
     (λ e made. fault_of_words IsOutOfMemory (HasKind (fault_of tomlfmt words)) (λ x memory. inl memory) (matches_of tomlfmt words) e made)
