@@ -1,0 +1,8 @@
+use Rattle.toml_syntax.proofs.FormattedAgain.{formatted_say_the_same, formatted_stay}
+use Rattle.toml_syntax.proofs.laws.law_formatting.Goals as goal
+
+pub returns-clause-stay : goal.returns-clause-stay
+returns-clause-stay c = formatted_stay
+
+pub returns-clause-same : goal.returns-clause-same
+returns-clause-same c = formatted_say_the_same

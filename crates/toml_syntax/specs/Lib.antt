@@ -1,0 +1,9 @@
+pub mod TypedLexemes
+pub mod Tree
+pub mod Reading
+pub mod Spelled
+pub mod Formed
+pub mod Settled
+pub mod Content
+pub mod Formatted
+pub mod Laws

@@ -1,0 +1,25 @@
+ghost use Rattle.toml_syntax.specs.Laws.{FormattedSayTheSame, FormattedStay, ParsedAreToml};
+ghost use Rattle.toml_syntax.specs.Laws.{ReadAreFormed, SettledSayTheSame, SettledStay, SpelledAreRead};
+
+/// What is spelled is read again, and what is read may be spelled.
+pub fn law_reading()
+    ensures read { SpelledAreRead }
+    ensures formed { ReadAreFormed }
+{}
+
+/// Statements that are laid out stay when they are laid out again, and say what they said.
+pub fn law_layout()
+    ensures stay { SettledStay }
+    ensures same { SettledSayTheSame }
+{}
+
+/// A text that is laid out stays when it is laid out again, and says what it said.
+pub fn law_formatting()
+    ensures stay { FormattedStay }
+    ensures same { FormattedSayTheSame }
+{}
+
+/// A text is read as statements where it is TOML by the grammar, and else not.
+pub fn law_same_texts()
+    ensures { ParsedAreToml }
+{}
