@@ -11,3 +11,6 @@ mod Fits
 pub mod Lexed
 pub mod FormattedAgain
 pub mod SameTexts
+pub mod FormattedToml
+mod SpelledKept
+pub mod ReadKept

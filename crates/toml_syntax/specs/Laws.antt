@@ -1,6 +1,8 @@
 -- What holds of statements.
-use Rattle.std.specs.Prelude.{◌≡◌, ℕ, List, Option, Some, None}
+use Rattle.std.specs.Prelude.{◌≡◌, ℕ, true, List, Option, Some, None}
 use Rattle.std.specs.Option.{is_some}
+use Rattle.toml_lexemes.specs.Lexemes.{toml_lexemes_of}
+use Rattle.toml_lexemes.specs.StatementLaws.{said}
 use Rattle.toml_grammar.specs.Grammar.{is_toml}
 use Rattle.toml_syntax.specs.TypedLexemes.{TypedAfterGap}
 use Rattle.toml_syntax.specs.Tree.{Statement}
@@ -9,7 +11,8 @@ use Rattle.toml_syntax.specs.Spelled.{spelled_statements}
 use Rattle.toml_syntax.specs.Formed.{IsClearGap, AreFormed, AreAlone}
 use Rattle.toml_syntax.specs.Settled.{Style, settled_statements}
 use Rattle.toml_syntax.specs.Content.{content}
-use Rattle.toml_syntax.specs.Formatted.{parsed, formatted}
+use Rattle.toml_syntax.specs.Formatted.{lexemes_in, parsed, formatted}
+use Rattle.toml_syntax.specs.Kept.{kept_lexemes, EndsOnce}
 
 -- what is spelled is read again
 abbrev pub SpelledAreRead : Type 0
@@ -47,3 +50,28 @@ FormattedSayTheSame =
 -- a text is read as statements where it is TOML by the grammar
 abbrev pub ParsedAreToml : Type 0
 ParsedAreToml = (text : List ℕ) → is_some (parsed text) ≡ is_toml text
+
+-- a text that is laid out is TOML by the grammar
+abbrev pub FormattedAreToml : Type 0
+FormattedAreToml = (s : Style) → IsClearGap s.indent → (text out : List ℕ) → formatted s text ≡ Some out → is_toml out ≡ true
+
+-- ---- lexemes
+
+-- What is read loses no lexeme and moves none: statements are spelled with the lexemes that were read, in their order, but for commas,
+-- line ends and how the words of a key are cut.
+abbrev pub ReadKeepLexemes : Type 0
+ReadKeepLexemes =
+    (ps : List SpacedLexeme) (ss : List Statement) → EndsOnce ps → read_statements ps ≡ Some ss
+    → kept_lexemes (spelled_statements ss) ≡ kept_lexemes ps
+
+-- so do the statements of a text
+abbrev pub ParsedKeepLexemes : Type 0
+ParsedKeepLexemes =
+    (text : List ℕ) (ss : List Statement) → parsed text ≡ Some ss
+    → kept_lexemes (spelled_statements ss) ≡ kept_lexemes (lexemes_in text)
+
+-- a text that is laid out has the lexemes that it had, but for commas, line ends and the blanks at the end of comments
+abbrev pub FormattedKeepLexemes : Type 0
+FormattedKeepLexemes =
+    (s : Style) → IsClearGap s.indent → (text out : List ℕ) → formatted s text ≡ Some out
+    → said (toml_lexemes_of out) ≡ said (toml_lexemes_of text)

@@ -6,4 +6,5 @@ pub mod Formed
 pub mod Settled
 pub mod Content
 pub mod Formatted
+pub mod Kept
 pub mod Laws

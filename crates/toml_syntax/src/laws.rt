@@ -1,5 +1,5 @@
-ghost use Rattle.toml_syntax.specs.Laws.{FormattedSayTheSame, FormattedStay, ParsedAreToml};
-ghost use Rattle.toml_syntax.specs.Laws.{ReadAreFormed, SettledSayTheSame, SettledStay, SpelledAreRead};
+ghost use Rattle.toml_syntax.specs.Laws.{FormattedAreToml, FormattedSayTheSame, FormattedStay, ParsedAreToml, ParsedKeepLexemes};
+ghost use Rattle.toml_syntax.specs.Laws.{ReadAreFormed, ReadKeepLexemes, SettledSayTheSame, SettledStay, SpelledAreRead};
 
 /// What is spelled is read again, and what is read may be spelled.
 pub fn law_reading()
@@ -13,13 +13,20 @@ pub fn law_layout()
     ensures same { SettledSayTheSame }
 {}
 
-/// A text that is laid out stays when it is laid out again, and says what it said.
+/// A text that is laid out stays when it is laid out again, says what it said, and is TOML by the grammar.
 pub fn law_formatting()
     ensures stay { FormattedStay }
     ensures same { FormattedSayTheSame }
+    ensures toml { FormattedAreToml }
 {}
 
 /// A text is read as statements where it is TOML by the grammar, and else not.
 pub fn law_same_texts()
     ensures { ParsedAreToml }
+{}
+
+/// Reading loses no lexeme and moves none, but for commas, line ends and how the words of a key are cut.
+pub fn law_words()
+    ensures read { ReadKeepLexemes }
+    ensures parsed { ParsedKeepLexemes }
 {}

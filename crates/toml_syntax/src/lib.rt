@@ -3,4 +3,4 @@
 
 mod laws;
 
-pub use laws::{law_formatting, law_layout, law_reading, law_same_texts};
+pub use laws::{law_formatting, law_layout, law_reading, law_same_texts, law_words};
