@@ -1,5 +1,5 @@
 -- A text that is laid out is TOML by the grammar.
-use Rattle.std.proofs.Common.{◌≡◌, refl, sym, ◌∙◌, ap, ℕ, true, List, Option, Some, None}
+use Rattle.std.proofs.Common.{◌≡◌, refl, sym, ◌∙◌, ℕ, true, List, Option, Some, None}
 use Rattle.std.specs.Option.{is_some}
 use Rattle.toml_syntax.specs.Tree.{Statement}
 use Rattle.toml_syntax.specs.Settled.{Style}

@@ -14,3 +14,4 @@ pub mod SameTexts
 pub mod FormattedToml
 mod SpelledKept
 pub mod ReadKept
+pub mod FormattedKept

@@ -1,5 +1,6 @@
-ghost use Rattle.toml_syntax.specs.Laws.{FormattedAreToml, FormattedSayTheSame, FormattedStay, ParsedAreToml, ParsedKeepLexemes};
-ghost use Rattle.toml_syntax.specs.Laws.{ReadAreFormed, ReadKeepLexemes, SettledSayTheSame, SettledStay, SpelledAreRead};
+ghost use Rattle.toml_syntax.specs.Laws.{FormattedAreToml, FormattedKeepLexemes, FormattedSayTheSame, FormattedStay};
+ghost use Rattle.toml_syntax.specs.Laws.{ParsedAreToml, ParsedKeepLexemes, ReadAreFormed, ReadKeepLexemes};
+ghost use Rattle.toml_syntax.specs.Laws.{SettledSayTheSame, SettledStay, SpelledAreRead};
 
 /// What is spelled is read again, and what is read may be spelled.
 pub fn law_reading()
@@ -25,8 +26,10 @@ pub fn law_same_texts()
     ensures { ParsedAreToml }
 {}
 
-/// Reading loses no lexeme and moves none, but for commas, line ends and how the words of a key are cut.
+/// Reading loses no lexeme and moves none, but for commas, line ends and how the words of a key are cut. A text that is laid
+/// out has the lexemes that it had, but for these and the blanks at the end of comments.
 pub fn law_words()
     ensures read { ReadKeepLexemes }
     ensures parsed { ParsedKeepLexemes }
+    ensures formatted { FormattedKeepLexemes }
 {}
