@@ -4,7 +4,8 @@ use Rattle.std.proofs.Common.{length, drop, map, All, Option, Some, None, subst}
 use Rattle.std.proofs.lemmas.Bool.{eqb-true, true≢false, or_cases}
 use Rattle.std.proofs.lemmas.List.Elements.{All-head, All-tail}
 use Rattle.toml_lexemes.specs.Bytes.{is_sign, is_blank, is_quote, ends_word}
-use Rattle.toml_lexemes.specs.Lexemes.{between, cut_toml, toml_lexemes_of}
+use Rattle.text_lexemes.specs.Languages.{between}
+use Rattle.toml_lexemes.specs.Lexemes.{cut_toml, toml_lexemes_of}
 use Rattle.toml_lexemes.specs.SpacedLexemes.{toml_spaced_as, blanks}
 use Rattle.toml_lexemes.specs.StatementLaws.{said_first, said}
 use Rattle.toml_lexemes.specs.Statements.{role_of, word_parts, trimmed}
@@ -20,10 +21,11 @@ use Rattle.toml_syntax.specs.Tree.{no_members, with_member}
 use Rattle.toml_syntax.specs.Tree.{Body, note, header, pair, Remark, Statement}
 use Rattle.toml_syntax.specs.Settled.{Style}
 use Rattle.toml_syntax.specs.Content.{said_comments, said_value, said_items, said_members, said_body, said_remark, said_statement, content}
-use Rattle.toml_syntax.specs.Formatted.{lexemes_in, parsed, laid_out_if}
+use Rattle.toml_syntax.specs.Formatted.{typed_lexemes_in, parsed, laid_out_if}
 use Rattle.toml_syntax.specs.Kept.{with_kept, kept_lexemes}
 use Rattle.toml_syntax.specs.Laws.{content_if, FormattedKeepLexemes}
-use Rattle.toml_syntax.proofs.Alone.{not_blank, typed_word}
+use Rattle.toml_lexemes.proofs.Kept.{no_blank}
+use Rattle.toml_syntax.proofs.Alone.{typed_word}
 use Rattle.toml_syntax.proofs.FormattedAgain.{formatted_say_the_same, formatted_stay}
 use Rattle.toml_syntax.proofs.ReadKept.{parsed_keep_lexemes}
 use Rattle.toml_syntax.proofs.SpelledKept.{key_kept, comments_kept, value_kept, items_kept, members_kept, body_kept, remark_kept}
@@ -87,9 +89,9 @@ said_as ((x ∷ s) ∷ ss) bytes h =
     let rest = drop (length (blanks bytes) + length (x ∷ s)) bytes in
     let kept = kept_lexemes (map typed_spaced (toml_spaced_as rest ss)) in
     ap (said_first (role_of x) (x ∷ s)) (said_as ss rest (All-tail (λ s. toml_lexemes_of s ≡ s ∷ []) (x ∷ s) ss h))
-    ∙ by_word x s kept (not_blank x s alone) alone (ends_word x) refl
+    ∙ by_word x s kept (no_blank x s alone) alone (ends_word x) refl
 
-said_kept : (text : List ℕ) → said (toml_lexemes_of text) ≡ map trimmed_bytes (kept_lexemes (lexemes_in text))
+said_kept : (text : List ℕ) → said (toml_lexemes_of text) ≡ map trimmed_bytes (kept_lexemes (typed_lexemes_in text))
 said_kept text = said_as (toml_lexemes_of text) text (lexemes_alone text)
 
 -- ---- trees

@@ -21,7 +21,7 @@ use Rattle.toml_grammar.proofs.GapLaws.{key_words_are_joined}
 use Rattle.toml_grammar.proofs.KeyWords.{key_word_end, key_word_start}
 use Rattle.toml_syntax.specs.TypedLexemes.{TomlLexeme, open_array, close_array, open_table, close_table, comma, equals, line_end, comment}
 use Rattle.toml_syntax.specs.TypedLexemes.{string, word, text_end, typed, typed_spaced}
-use Rattle.toml_syntax.specs.TypedLexemes.{SpacedLexeme, is_line_end_lexeme, is_clear_gap}
+use Rattle.toml_syntax.specs.TypedLexemes.{TypedAfterGap, is_line_end_lexeme, is_clear_gap}
 use Rattle.toml_syntax.specs.Tree.{Lead, lead, Key, no_parts, with_word, with_string, Comments, no_comments, with_comment}
 use Rattle.toml_syntax.specs.Tree.{TomlValue, plain, moment, quoted, array, table, ArrayItems, no_items, with_item, TableMembers}
 use Rattle.toml_syntax.specs.Tree.{no_members, with_member}
@@ -35,7 +35,7 @@ use Rattle.toml_syntax.specs.Reading.{last_comma, comment_in, time_in_array}
 use Rattle.toml_syntax.specs.Reading.{array_turn, table_turn, with_remark, line_turn_of, header_turn, closing_turn, time_at_end}
 use Rattle.toml_syntax.specs.Reading.{end_turn_of, remark_turn, clear_turn}
 use Rattle.toml_syntax.specs.Reading.{read_turn, said_before, then_statements, read_from}
-use Rattle.toml_syntax.specs.Formatted.{lexemes_in}
+use Rattle.toml_syntax.specs.Formatted.{typed_lexemes_in}
 use Rattle.toml_syntax.specs.Kept.{with_kept, kept_lexemes, EndsOnce}
 use Rattle.toml_syntax.specs.Laws.{ReadKeepLexemes, ParsedKeepLexemes}
 use Rattle.toml_syntax.proofs.Alone.{by_sort}
@@ -374,7 +374,7 @@ said_kept : (s : Statement) (r : Option (List Statement)) (ls : List TomlLexeme)
 said_kept s None ls h ss e = absurd (cc)
 said_kept s (Some ts) ls h ss e = ap statements_kept (sym (some_is (s ∷ ts) ss e)) ∙ ap (statement_kept s) (h ts refl)
 
-then_kept : (t : ReadTurn) (f : List TomlLexeme → List TomlLexeme) (l : TomlLexeme) (ps : List SpacedLexeme) (ss : List Statement)
+then_kept : (t : ReadTurn) (f : List TomlLexeme → List TomlLexeme) (l : TomlLexeme) (ps : List TypedAfterGap) (ss : List Statement)
     → Keeps f l t
     → (l ≡ text_end → ps ≡ []) → ((n : Now) → IsSoundNow n → ReadsKept (read_from n ps) (now_kept n (kept_lexemes ps)))
     → then_statements t (λ next. read_from next ps) ≡ Some ss → statements_kept ss ≡ f (with_kept l (kept_lexemes ps))
@@ -388,7 +388,7 @@ then_kept (says_last s) f l ps ss h last k e =
     ∙ h.1 (kept_lexemes ps)
 then_kept refuses f l ps ss h last k e = absurd (cc)
 
-from_kept : (ps : List SpacedLexeme) (n : Now) → EndsOnce ps → IsSoundNow n → ReadsKept (read_from n ps) (now_kept n (kept_lexemes ps))
+from_kept : (ps : List TypedAfterGap) (n : Now) → EndsOnce ps → IsSoundNow n → ReadsKept (read_from n ps) (now_kept n (kept_lexemes ps))
 from_kept [] n last h ss e = absurd (cc)
 from_kept (p ∷ ps) n last h ss e =
     then_kept (read_turn n p) (now_kept n) p.lexeme ps ss
@@ -426,8 +426,8 @@ ends_as ((x ∷ s) ∷ ss) bytes h = (
   ends_as ss (drop (length (blanks bytes) + length (x ∷ s)) bytes) (All-tail (λ s. toml_lexemes_of s ≡ s ∷ []) (x ∷ s) ss h),
 )
 
-pub ends_once : (text : List ℕ) → EndsOnce (lexemes_in text)
+pub ends_once : (text : List ℕ) → EndsOnce (typed_lexemes_in text)
 ends_once text = ends_as (toml_lexemes_of text) text (lexemes_alone text)
 
 pub parsed_keep_lexemes : ParsedKeepLexemes
-parsed_keep_lexemes text ss e = read_keep_lexemes (lexemes_in text) ss (ends_once text) e
+parsed_keep_lexemes text ss e = read_keep_lexemes (typed_lexemes_in text) ss (ends_once text) e

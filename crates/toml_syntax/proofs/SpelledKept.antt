@@ -1,7 +1,7 @@
 -- The lexemes that are kept of a tree, in front of others, and that these are kept of how the tree is spelled.
 use Rattle.std.proofs.Common.{◌≡◌, refl, ◌∙◌, ap, ℕ, zero, suc, Bool, true, false, List, [], ◌∷◌, ◌++◌, append_assoc, Option, Some, None}
 use Rattle.toml_syntax.specs.TypedLexemes.{TomlLexeme, open_array, close_array, open_table, close_table, comma, equals, line_end, comment}
-use Rattle.toml_syntax.specs.TypedLexemes.{string, word, SpacedLexeme, spaced_lexeme, one_blank}
+use Rattle.toml_syntax.specs.TypedLexemes.{string, word, TypedAfterGap, typed_after_gap, one_blank}
 use Rattle.toml_syntax.specs.Tree.{Key, no_parts, with_word, with_string, Comments, no_comments, with_comment}
 use Rattle.toml_syntax.specs.Tree.{TomlValue, plain, moment, quoted, array, table, ArrayItems, no_items, with_item, TableMembers}
 use Rattle.toml_syntax.specs.Tree.{no_members, with_member}
@@ -58,22 +58,22 @@ statements_kept (s ∷ ss) = statement_kept s (statements_kept ss)
 -- ---- spelled
 
 -- what f puts in front is kept of these
-record Spells (a : List SpacedLexeme) (f : List TomlLexeme → List TomlLexeme) : Type 0 where
-  on : (rest : List SpacedLexeme) → kept_lexemes (a ++ rest) ≡ f (kept_lexemes rest)
+record Spells (a : List TypedAfterGap) (f : List TomlLexeme → List TomlLexeme) : Type 0 where
+  on : (rest : List TypedAfterGap) → kept_lexemes (a ++ rest) ≡ f (kept_lexemes rest)
 
 -- one after the other
 infixr 4 ◌▸◌
-◌▸◌ : {a b : List SpacedLexeme} {f h : List TomlLexeme → List TomlLexeme} → Spells a f → Spells b h → Spells (a ++ b) (λ r. f (h r))
+◌▸◌ : {a b : List TypedAfterGap} {f h : List TomlLexeme → List TomlLexeme} → Spells a f → Spells b h → Spells (a ++ b) (λ r. f (h r))
 ◌▸◌ {a} {b} {f} {h} x y = record { on = λ rest. ap kept_lexemes (append_assoc a b rest) ∙ x.on (b ++ rest) ∙ ap f (y.on rest) }
 
 none : Spells [] (λ r. r)
 none = record { on = λ rest. refl }
 
-one : (g : List ℕ) (l : TomlLexeme) → Spells (spaced_lexeme g l ∷ []) (with_kept l)
+one : (g : List ℕ) (l : TomlLexeme) → Spells (typed_after_gap g l ∷ []) (with_kept l)
 one g l = record { on = λ rest. refl }
 
-first : (g : List ℕ) (l : TomlLexeme) {b : List SpacedLexeme} {h : List TomlLexeme → List TomlLexeme} → Spells b h
-    → Spells (spaced_lexeme g l ∷ b) (λ r. with_kept l (h r))
+first : (g : List ℕ) (l : TomlLexeme) {b : List TypedAfterGap} {h : List TomlLexeme → List TomlLexeme} → Spells b h
+    → Spells (typed_after_gap g l ∷ b) (λ r. with_kept l (h r))
 first g l {b} {h} y = record { on = λ rest. ap (with_kept l) (y.on rest) }
 
 line_ends_spelled : (n : ℕ) → Spells (spelled_line_ends n) (λ r. r)

@@ -11,7 +11,7 @@ use Rattle.toml_syntax.specs.Spelled.{spelled_statements}
 use Rattle.toml_syntax.specs.Formed.{IsClearGap, AreFormed, AreAlone}
 use Rattle.toml_syntax.specs.Settled.{Style, settled_statements}
 use Rattle.toml_syntax.specs.Content.{content}
-use Rattle.toml_syntax.specs.Formatted.{lexemes_in, parsed, formatted}
+use Rattle.toml_syntax.specs.Formatted.{typed_lexemes_in, parsed, formatted}
 use Rattle.toml_syntax.specs.Kept.{kept_lexemes, EndsOnce}
 
 -- what is spelled is read again
@@ -61,14 +61,14 @@ FormattedAreToml = (s : Style) → IsClearGap s.indent → (text out : List ℕ)
 -- line ends and how the words of a key are cut.
 abbrev pub ReadKeepLexemes : Type 0
 ReadKeepLexemes =
-    (ps : List SpacedLexeme) (ss : List Statement) → EndsOnce ps → read_statements ps ≡ Some ss
+    (ps : List TypedAfterGap) (ss : List Statement) → EndsOnce ps → read_statements ps ≡ Some ss
     → kept_lexemes (spelled_statements ss) ≡ kept_lexemes ps
 
 -- so do the statements of a text
 abbrev pub ParsedKeepLexemes : Type 0
 ParsedKeepLexemes =
     (text : List ℕ) (ss : List Statement) → parsed text ≡ Some ss
-    → kept_lexemes (spelled_statements ss) ≡ kept_lexemes (lexemes_in text)
+    → kept_lexemes (spelled_statements ss) ≡ kept_lexemes (typed_lexemes_in text)
 
 -- a text that is laid out has the lexemes that it had, but for commas, line ends and the blanks at the end of comments
 abbrev pub FormattedKeepLexemes : Type 0
