@@ -1,5 +1,5 @@
 -- A text that is laid out has the lexemes that it had.
-use Rattle.std.proofs.Common.{◌≡◌, refl, sym, ◌∙◌, ap, ℕ, ◌+◌, Bool, true, false, cond, ◌==◌, ◌||◌, ◌⊎◌, inl, inr, List, [], ◌∷◌, ◌++◌}
+use Rattle.std.proofs.Common.{◌≡◌, refl, sym, ◌∙◌, ap, ℕ, ◌+◌, Bool, true, false, ◌==◌, ◌||◌, ◌⊎◌, inl, inr, List, [], ◌∷◌, ◌++◌}
 use Rattle.std.proofs.Common.{length, drop, map, All, Option, Some, None, subst}
 use Rattle.std.proofs.lemmas.Bool.{eqb-true, true≢false, or_cases}
 use Rattle.std.proofs.lemmas.List.Elements.{All-head, All-tail}
@@ -139,7 +139,8 @@ mutual
       let q' = comments_kept (said_comments cs) q in
       items_alike is (value_kept v r') (value_kept (said_value v) q') (value_alike v r' q' (comments_alike cs r q e))
 
-  members_alike : (ms : TableMembers) (r q : List TomlLexeme) → AreAlike r q → AreAlike (members_kept ms r) (members_kept (said_members ms) q)
+  members_alike : (ms : TableMembers) (r q : List TomlLexeme) → AreAlike r q
+      → AreAlike (members_kept ms r) (members_kept (said_members ms) q)
   members_alike no_members r q e = e
   members_alike (with_member ms k v) r q e =
       let r' = equals ∷ value_kept v r in
@@ -166,7 +167,8 @@ remark_alike : (c : Option Remark) (r q : List TomlLexeme) → AreAlike r q → 
 remark_alike None r q e = e
 remark_alike (Some c) r q e = comment_alike c.text r q e
 
-statement_alike : (s : Statement) (r q : List TomlLexeme) → AreAlike r q → AreAlike (statement_kept s r) (statement_kept (said_statement s) q)
+statement_alike : (s : Statement) (r q : List TomlLexeme) → AreAlike r q
+    → AreAlike (statement_kept s r) (statement_kept (said_statement s) q)
 statement_alike s r q e =
     body_alike s.body (remark_kept s.remark r) (remark_kept (said_remark s.remark) q) (remark_alike s.remark r q e)
 

@@ -365,7 +365,7 @@ turn_keeps false f l t h = tt
 some_is : (xs ys : List Statement) → Some xs ≡ Some ys → xs ≡ ys
 some_is xs ys e = cc
 
--- what is kept of statements that are read after the places f
+-- where statements are read, these lexemes are kept of them
 abbrev ReadsKept : Option (List Statement) → List TomlLexeme → Type 0
 ReadsKept r ls = (ss : List Statement) → r ≡ Some ss → statements_kept ss ≡ ls
 
