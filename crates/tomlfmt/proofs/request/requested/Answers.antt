@@ -1,7 +1,7 @@
 use Rattle.std.proofs.Common.{ap, ◌∙◌, ◌≡◌, refl, sym, map, subst, inl, List, true, Result, Ok, Err}
 use Rattle.std.specs.Prelude.{IfErr, MatchResult}
 use Rattle.std.proofs.lemmas.Result.{IfOk-weaker}
-use Rattle.clap.specs.Words.{App, HasKind, Kinds, Row, app_of, fault_of, is_simple, is_simple_and_free, matches_of}
+use Rattle.clap.specs.Words.{App, HasKind, Kinds, Row, app_of, fault_of, found_of, is_simple, is_simple_and_free, matches_of, rows_of}
 use Rattle.formatter_files.specs.Faults.{IsRequestError, IsOutOfMemory}
 use Rattle.formatter_files.specs.declared.request_error.RequestError.{RequestError}
 use Rattle.tomlfmt.specs.Words.{AsksForToml, tomlfmt_faults, tomlfmt, tomlfmt_matches}
@@ -50,7 +50,8 @@ returns-clause-err g c =
     (ap is_simple_and_free c.in_ok-command.ensures ∙ free) in
     answered c.asked.result _ _ _ none
     (λ e says. subst (λ (found : List Row). IsRequestError (HasKind (fault_of tomlfmt words)) found e) rows
-    (IsRequestError-weaker IsOutOfMemory (HasKind (fault_of tomlfmt words)) (λ x memory. inl memory) _ e says))
+    (IsRequestError-weaker IsOutOfMemory (HasKind (fault_of tomlfmt words)) (λ x memory. inl memory)
+    (rows_of (found_of c.in_ok-matches.matches)) e says))
     c.asked.ensures.err
 
 pub returns-in_err-matches-clause-err : goal.returns-in_err-matches-clause-err
