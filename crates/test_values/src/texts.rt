@@ -66,10 +66,6 @@ fn copy_of<'a>(memory: Global, text: CowStr<'a>) -> Result<Text<'a>, BuildError>
     Text::from_cow(memory, text)?.clone(memory)
 }
 
-fn payload_of<'a>(memory: Global, text: CowStr<'a>) -> Result<MultilineTextData<'a>, BuildError> {
-    MultilineTextData::new(memory, text)?.clone(memory)
-}
-
 // Whether such a copy is shown as this text. The widest of the later lines of a payload has five columns.
 fn is_copied(memory: Global, text: CowStr<'_>, shown: &str) -> bool {
     match copy_of(memory, text) {
@@ -78,8 +74,15 @@ fn is_copied(memory: Global, text: CowStr<'_>, shown: &str) -> bool {
     }
 }
 
-fn is_payload(memory: Global, text: CowStr<'_>, shown: &str) -> bool {
-    match payload_of(memory, text) {
+fn is_payload(
+    memory: Global,
+    payload: Result<MultilineTextData<'_>, BuildError>,
+    shown: &str,
+) -> bool {
+    let Ok(payload) = payload else {
+        return false;
+    };
+    match payload.clone(memory) {
         Ok(copy) => is_shown(memory, &copy, shown) && copy.metrics().rest_width == 5,
         Err(_) => false,
     }
@@ -93,8 +96,8 @@ fn texts_are_copied(rt: HostRuntime) {
     }
     let source = String::from_str(rt.alloc(), "one\n  two").expect(&rt, "memory was refused");
     rows! { is_payload, &rt, rt.alloc();
-        CowStr::Owned(source) => "\"one\\n  two\"";
-        CowStr::Borrowed("one\r\n  two") => "\"one\\r\\n  two\"";
+        MultilineTextData::new(rt.alloc(), CowStr::Owned(source)) => "\"one\\n  two\"";
+        MultilineTextData::new(rt.alloc(), CowStr::Borrowed("one\r\n  two")) => "\"one\\r\\n  two\"";
     }
 }
 
