@@ -19,6 +19,7 @@ DEPENDENCIES = (
 )
 
 # Files whose items no other crate can name, so that no example of them can run.
+PRIVATE = ("prettyless_doc/src/fact.rt", "prettyless_doc/src/formatter_sink.rt")
 
 # What an example may name: in every crate, and in some.
 IMPORTS = """use crate::outcomes;
